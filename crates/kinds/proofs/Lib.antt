@@ -1,0 +1,13 @@
+pub mod Totals
+pub mod Halves
+pub mod Parts
+pub mod Grids
+pub mod Sequences
+pub mod Stepwise
+pub mod Restricted
+pub mod Bound
+pub mod Joins
+pub mod Lending
+pub mod Cases
+pub mod Slots
+pub mod Placed

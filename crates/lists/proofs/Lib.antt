@@ -1,0 +1,10 @@
+pub mod Places
+pub mod Steps
+pub mod Exchanges
+pub mod Filling
+pub mod Lawful
+pub mod Texts
+pub mod Moves
+pub mod Comparing
+pub mod Replacing
+pub mod Applying

@@ -1,0 +1,3 @@
+pub mod Controller
+pub mod Telling
+pub mod Examples

@@ -1,0 +1,5 @@
+pub mod Values
+pub mod Takes
+pub mod Words
+pub mod Changes
+pub mod Applied
