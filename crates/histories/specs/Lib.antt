@@ -1,0 +1,4 @@
+pub mod Named
+pub mod History
+pub mod Runs
+pub mod Agreement
