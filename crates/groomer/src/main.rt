@@ -5,9 +5,8 @@ mod telling;
 
 use options::fitting::put_on;
 use options::fitting::take_off;
-use options::reading::Options;
-use options::reading::find_option;
-use options::reading::read_options;
+use options::parts::Options;
+use options::parts::find_option;
 use product::controller::controller_words;
 use showing::show_controller;
 use std::env;
@@ -17,6 +16,7 @@ use telling::tell_misfit;
 use telling::tell_names;
 use telling::tell_stuck;
 use telling::tell_unreadable;
+use texts::reading::read_options;
 
 // Puts all options on, and prints what the controller then holds.
 fn fit(rt: &LibcRuntime, options: &Options, run: &mut [u32]) -> Result<(), AnyError> {

@@ -1,5 +1,5 @@
 // A controller, as a person reads it.
-use lists::note::Note;
+use lines::note::Note;
 use std::error::AnyError;
 use std::io;
 

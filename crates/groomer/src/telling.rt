@@ -2,15 +2,15 @@
 use kinds::answers::Clash;
 use kinds::answers::Failure;
 use kinds::steps::AtStep;
-use options::changes::Reason;
 use options::fitting::Stuck;
 use options::fitting::changes_before;
-use options::reading::Complaint;
-use options::reading::Options;
-use options::reading::Unreadable;
+use options::parts::Options;
 use product::controller::ChangeFault;
 use product::telling::tell;
 use std::error::AnyError;
+use texts::changes::Reason;
+use texts::reading::Complaint;
+use texts::reading::Unreadable;
 
 fn reason_text(reason: Reason) -> &'static str {
     match reason {

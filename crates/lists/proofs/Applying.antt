@@ -18,7 +18,7 @@ use Rattle.kinds.specs.declared.answers.Failure.{Failure}
 use Rattle.kinds.specs.declared.answers.Failure.the-variants.{Overfull}
 use Rattle.lists.specs.declared.hunk.Hunk.{Hunk}
 use Rattle.lists.specs.declared.hunk.ListFault.{ListFault}
-use Rattle.lists.specs.Line.{Form}
+use Rattle.lines.specs.Line.{Form}
 use Rattle.lists.specs.Hunk.{hunk-apply, too-long, filled-up, lists}
 
 -- a run that is told to have room has it

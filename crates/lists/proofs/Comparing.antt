@@ -22,7 +22,7 @@ use Rattle.kinds.specs.declared.answers.Failure.the-variants.{Overfull, Fault}
 use Rattle.lists.specs.declared.hunk.Hunk.{Hunk}
 use Rattle.lists.specs.declared.hunk.ListFault.{ListFault}
 use Rattle.lists.specs.declared.hunk.ListFault.the-variants.{Differs}
-use Rattle.lists.specs.Line.{Form}
+use Rattle.lines.specs.Line.{Form}
 use Rattle.lists.specs.Hunk.{lines-of, count, first-differing, filled-up, lists}
 use Rattle.lists.proofs.Filling.{Fills, Reads, joined-three, length-joined}
 

@@ -8,14 +8,9 @@ use native.Mathlib.Omega.{arith}
 use lib.ListN.{length, take, drop, length-append}
 use Rattle.std.specs.shelf.Lists.{joined}
 use Rattle.std.proofs.shelf.Lists.{append-nil, length-replicate, take-at, drop-at, drop-all}
-use Rattle.std.proofs.shelf.Edits.{sets, sets-eq}
 use Rattle.kinds.specs.Laws.{most}
-use Rattle.lists.specs.Line.{Form}
+use Rattle.lines.specs.Line.{Form}
 use Rattle.lists.specs.Hunk.{filled-up}
-
--- a run is filled by as many writes as it is long
-pub all-set : (run words : List ℕ) → length run ≡ length words → sets run 0 words ≡ words
-all-set run words l = sets-eq words run 0 (omega arith) ∙ ap (λ x. words ++ x) (drop-all (0 + length words) run (omega arith)) ∙ append-nil words
 
 -- every line fills its words
 abbrev pub Fills : {L : Type 0} → Form L → Type 0

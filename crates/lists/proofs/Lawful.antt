@@ -17,7 +17,7 @@ use Rattle.kinds.specs.Laws.{most, Undo, Swap-back, Turning, Three, Growth, Rea
 use Rattle.kinds.proofs.Halves.{both-ways, three-from-front}
 use Rattle.lists.specs.declared.hunk.Hunk.{Hunk}
 use Rattle.lists.specs.declared.hunk.ListFault.{ListFault}
-use Rattle.lists.specs.Line.{Form}
+use Rattle.lines.specs.Line.{Form}
 use Rattle.lists.specs.Hunk.{lines-of, count, moved, exchanged, hunks-commute, hunk-apply, too-long, start-too-far, last-start, all-written, hunk-written, lists}
 use Rattle.lists.proofs.Places.{Place, Swap, way}
 use Rattle.lists.proofs.Places as places

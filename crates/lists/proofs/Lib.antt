@@ -3,7 +3,6 @@ pub mod Steps
 pub mod Exchanges
 pub mod Filling
 pub mod Lawful
-pub mod Texts
 pub mod Moves
 pub mod Comparing
 pub mod Replacing

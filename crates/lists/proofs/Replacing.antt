@@ -15,7 +15,7 @@ use Rattle.kinds.specs.Bounded.{saturated, largest}
 use Rattle.kinds.specs.Laws.{most}
 use Rattle.lists.specs.declared.hunk.Lines.the-variants.{the-data as Lines, Two}
 use Rattle.lists.specs.declared.hunk.Hunk.{Hunk}
-use Rattle.lists.specs.Line.{Form}
+use Rattle.lines.specs.Line.{Form}
 use Rattle.lists.specs.Hunk.{lines-of, count, filled-up}
 use Rattle.lists.proofs.Filling.{Fills, joined-three, length-joined}
 use Rattle.lists.proofs.Steps.{Step, sizes}

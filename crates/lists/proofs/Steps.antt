@@ -14,7 +14,7 @@ use Rattle.std.proofs.shelf.Tests.{leb-true, le-leb}
 use Rattle.std.proofs.shelf.Lists.{take-at, drop-at, drop-drop, length-take-le, take-append-drop}
 use Rattle.lists.specs.declared.hunk.Hunk.{Hunk}
 use Rattle.lists.specs.declared.hunk.ListFault.the-variants.{PastEnd}
-use Rattle.lists.specs.Line.{Form}
+use Rattle.lines.specs.Line.{Form}
 use Rattle.lists.specs.Hunk.{lines-of, count, first-differing, replaced, hunk-apply}
 
 -- equal lines are told as the same

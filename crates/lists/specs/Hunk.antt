@@ -15,7 +15,7 @@ use Rattle.lists.specs.declared.hunk.Lines.the-variants.{the-data as Lines, Ze
 use Rattle.lists.specs.declared.hunk.Hunk.{Hunk}
 use Rattle.lists.specs.declared.hunk.ListFault.{ListFault}
 use Rattle.lists.specs.declared.hunk.ListFault.the-variants.{PastEnd, Differs}
-use Rattle.lists.specs.Line.{Form}
+use Rattle.lines.specs.Line.{Form}
 
 -- the largest start of a hunk
 abbrev pub last-start : ℕ

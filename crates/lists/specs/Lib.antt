@@ -1,4 +1,1 @@
-pub mod Line
-pub mod Rule
-pub mod Note
 pub mod Hunk

@@ -17,10 +17,10 @@ ghost use Rattle.lists.specs.Hunk.{lines-of, count as count-of, first-differin
 use crate::hunk::Hunk;
 use crate::hunk::Lines;
 use crate::hunk::ListFault;
-use crate::line::Line;
 use kinds::answers::Failure;
 use kinds::counts::roomy;
 use kinds::counts::total;
+use lines::line::Line;
 
 // The largest number of lines that the words of a list hold.
 pub const MOST_LINES: u32 = 120;

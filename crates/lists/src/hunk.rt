@@ -5,8 +5,8 @@ ghost use lib.Dec.{ltb};
 ghost use Rattle.std.specs.declared.result.Result.the-variants.{Ok, Err};
 ghost use Rattle.kinds.specs.declared.answers.Clash.the-variants.{TooFar};
 ghost use Rattle.lists.specs.Hunk.{lines-of, count as count-of, moved as moved-to, last-start, all-written};
-use crate::line::Line;
 use kinds::answers::Clash;
+use lines::line::Line;
 
 // No line, one or two.
 #[derive(Clone, Copy)]

@@ -1,11 +1,8 @@
-// Lists of lines, for every line type: the hunk as a kind of patch; rule lines and note lines.
+// Lists of lines, for every line type: the hunk as a kind of patch.
 ghost use Rattle.lists.specs.Hunk.{lists as the-lists};
 
 pub mod apply;
 pub mod hunk;
-pub mod line;
-pub mod note;
-pub mod rule;
 
 use apply::apply_hunk;
 use apply::list_words;
@@ -14,7 +11,7 @@ use hunk::ListFault;
 use kinds::answers::Clash;
 use kinds::answers::Failure;
 use kinds::kind::Kind;
-use line::Line;
+use lines::line::Line;
 
 // The kind of lists of lines of the type L.
 pub struct Lists<L> {

@@ -10,7 +10,7 @@ use Rattle.std.specs.shelf.Lists.{sumBy}
 use Rattle.std.proofs.shelf.Lists.{take-more, take-all, drop-more, take-at}
 use Rattle.std.proofs.shelf.Sums.{sumBy-push}
 use Rattle.std.proofs.shelf.Tests.{cases-lt}
-use Rattle.options.specs.declared.reading.Part.{Part}
+use Rattle.options.specs.declared.parts.Part.{Part}
 use Rattle.std.specs.declared.result.Result.{Result}
 use Rattle.std.specs.declared.result.Result.the-variants.{Ok, Err}
 use Rattle.kinds.specs.declared.answers.Clash.{Clash}

@@ -12,7 +12,7 @@ use Rattle.rows.specs.Pass.{passing}
 use Rattle.product.specs.Controller.{Change, controller}
 use Rattle.options.specs.declared.fitting.Stuck.{Stuck}
 use Rattle.options.specs.declared.fitting.Stuck.the-variants.{NoMemory, NoSuchOption, By}
-use Rattle.options.specs.declared.reading.Part.{Part}
+use Rattle.options.specs.declared.parts.Part.{Part}
 
 abbrev pub count-of : Part → ℕ
 count-of p = p .count

@@ -3,11 +3,11 @@ use Rattle.kinds.specs.Theory.{Theory}
 use Rattle.kinds.specs.declared.steps.AtStep.{AtStep}
 use Rattle.lists.specs.declared.hunk.Hunk.{Hunk}
 use Rattle.lists.specs.declared.hunk.ListFault.{ListFault}
-use Rattle.lists.specs.declared.note.Note.{Note}
-use Rattle.lists.specs.declared.rule.Rule.{Rule}
+use Rattle.lines.specs.declared.note.Note.{Note}
+use Rattle.lines.specs.declared.rule.Rule.{Rule}
 use Rattle.lists.specs.Hunk.{lists}
-use Rattle.lists.specs.Note.{note-form}
-use Rattle.lists.specs.Rule.{rule-form}
+use Rattle.lines.specs.Note.{note-form}
+use Rattle.lines.specs.Rule.{rule-form}
 use Rattle.modules.specs.declared.InModule.{InModule}
 use Rattle.modules.specs.declared.ModuleFault.the-variants.{the-data as ModuleFault}
 use Rattle.modules.specs.Modules.{modules}

@@ -5,7 +5,7 @@ use lib.IntN.{ℤ, pos}
 use Rattle.std.specs.declared.option.Option.the-variants.{Some, None}
 use Rattle.kinds.specs.Laws.{Commutes}
 use Rattle.lists.specs.declared.hunk.Lines.the-variants.{the-data as Lines, Zero, One, Two}
-use Rattle.lists.specs.declared.rule.Rule.{Rule}
+use Rattle.lines.specs.declared.rule.Rule.{Rule}
 use Rattle.modules.specs.declared.Module.{Module}
 use Rattle.pairs.specs.declared.Steps.the-variants.{One as Only}
 use Rattle.sheets.specs.declared.SheetChange.the-variants.{Inside}

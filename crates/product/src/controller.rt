@@ -2,14 +2,14 @@
 ghost use mathlib.Core.Path.{_≡_};
 use kinds::kind::Kind;
 use kinds::steps::AtStep;
+use lines::note::Note;
+use lines::note::NoteLine;
+use lines::rule::Rule;
+use lines::rule::RuleLine;
 use lists::Lists;
 use lists::ListsKind;
 use lists::hunk::Hunk;
 use lists::hunk::ListFault;
-use lists::note::Note;
-use lists::note::NoteLine;
-use lists::rule::Rule;
-use lists::rule::RuleLine;
 use modules::InModule;
 use modules::ModuleFault;
 use modules::Modules;

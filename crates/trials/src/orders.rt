@@ -4,12 +4,12 @@ mod tests {
     use kinds::answers::Clash;
     use kinds::answers::Failure;
     use kinds::kind::Kind;
+    use lines::rule::Rule;
+    use lines::rule::RuleLine;
     use lists::Lists;
     use lists::ListsKind;
     use lists::hunk::Hunk;
     use lists::hunk::Lines;
-    use lists::rule::Rule;
-    use lists::rule::RuleLine;
     use modules::InModule;
     use modules::Module;
     use modules::ModuleFault;

@@ -6,12 +6,12 @@ mod tests {
     use options::fitting::Stuck;
     use options::fitting::put_on;
     use options::fitting::take_off;
-    use options::reading::read_options;
     use product::controller::controller_words;
     use product::telling::Told;
     use product::telling::tell;
     use std::alloc::Global;
     use std::test::*;
+    use texts::reading::read_options;
 
     // Each text has one line that cannot be read, and the number of that line.
     const UNREADABLE: [(&str, usize); 18] = [

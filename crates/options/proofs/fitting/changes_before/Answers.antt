@@ -2,7 +2,7 @@ use mathlib.Core.Path.{_≡_, ap, sym, subst, _∙_}
 use Prim.Native.Nat.{_<_, _^_}
 use native.Mathlib.Nat.{min-eq-left}
 use native.Mathlib.Omega.{arith}
-use Rattle.options.specs.declared.reading.Part.{Part}
+use Rattle.options.specs.declared.parts.Part.{Part}
 use Rattle.options.proofs.Starts.{start-next, start-end}
 use Rattle.options.proofs.fitting.changes_before.Needs as need
 

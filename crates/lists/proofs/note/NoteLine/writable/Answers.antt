@@ -1,6 +1,0 @@
-use mathlib.Core.Path.{ap, _∙_}
-use Rattle.lists.specs.Note.{text-and-zeros}
-use Rattle.lists.proofs.note.NoteLine.writable.Needs as need
-
-pub returns : need.returns
-returns c = c .is-text-and-zeros .ensures ∙ ap text-and-zeros (c .bytes .ensures)
