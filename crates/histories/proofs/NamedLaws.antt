@@ -9,7 +9,8 @@ use Rattle.kinds.proofs.Halves.{three-from-front}
 use Rattle.kinds.proofs.Parts.{both-some}
 use Rattle.kinds.proofs.Sequences.{inverses-length, commuted-lengths, sequences-lawful}
 use Rattle.kinds.proofs.Restricted.{Part, restricted-lawful}
-use Rattle.histories.specs.Named.{Named, under, named, one-to-eight, patches}
+use Rattle.histories.specs.declared.named.Named.{Named}
+use Rattle.histories.specs.Named.{under, named, one-to-eight, patches}
 
 module _ {X F : Type 0} (T : Theory X F) where
   abbrev N : Theory (Named X) F

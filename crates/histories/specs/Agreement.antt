@@ -11,7 +11,8 @@ use Rattle.kinds.specs.Theory.{Theory}
 use Rattle.kinds.specs.Laws.{most}
 use Rattle.kinds.specs.Sequences.{growths, all-written, full-along}
 use Rattle.histories.specs.declared.Stop.the-variants.{TooFar}
-use Rattle.histories.specs.Named.{Named, patches}
+use Rattle.histories.specs.declared.named.Named.{Named}
+use Rattle.histories.specs.Named.{patches}
 use Rattle.histories.specs.History.{Block, holds, missing, replay, Rearranged, passed, block, gathered, merged}
 use Rattle.histories.specs.Runs.{Seen, Pull, Run}
 

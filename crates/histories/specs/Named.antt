@@ -10,12 +10,9 @@ use Rattle.kinds.specs.Theory.{Theory}
 use Rattle.kinds.specs.Parts.{both}
 use Rattle.kinds.specs.Sequences.{sequences}
 use Rattle.kinds.specs.Restricted.{restricted}
+use Rattle.histories.specs.declared.named.Named.{Named}
 
--- X is the type of what a patch does.
-pub record Named (X : Type 0) : Type 0 where
-  pub name : ℕ
-  pub changes : X
-
+-- what a patch does, under a name
 abbrev pub under : {X : Type 0} → ℕ → X → Named X
 under n c = record { name = n; changes = c }
 
