@@ -1,5 +1,7 @@
 // The calls of a shop, over any kind. Each is one chain of tests, in the order of its definition in
 // crates/shop/specs/Calls.antt, and then one change of one repository.
+#![tactic(auto)]
+
 mod checks;
 mod document;
 pub mod level;

@@ -1,5 +1,7 @@
 // Puts the options of a text file onto a fresh controller, takes one of them off, and prints the controller before and after.
 //     groomer FILE [OPTION]
+#![tactic(auto)]
+
 mod showing;
 mod telling;
 

@@ -1,4 +1,6 @@
 // Histories: patches under names, recorded, removed and pulled, over any kind.
+#![tactic(auto)]
+
 ghost use Rattle.histories.specs.Agreement.{HistoriesAgree};
 
 use kinds::kind::Kind;

@@ -6,12 +6,14 @@ use seplogic.Ra.Ura.{Ura}
 use mir.Syntax.{Dict}
 use prog.Model.{Model}
 use prog.Routine.{Env}
+use Rattle.std.specs.declared.clone.Clone.{Ghosts as Clones}
 use Rattle.kinds.specs.Laws.{Lawful}
 use Rattle.kinds.specs.contracts.kind.Kind.TheBound.{Met}
 use Rattle.kinds.specs.declared.kind.Kind.{Ghosts}
 
 pub lawful_of : {M : Type 1} {𝓤 : Ura M} {𝓛 : Logic 𝓤} {𝓜 : Model 𝓤 𝓛.H} {𝓡 : Running 𝓤 𝓛.H 𝓜} {γ : Env} {A B C : RattleType}
-    {K : Ghosts A.Denot B.Denot C.Denot} {d : Dict} → Met 𝓛 𝓜 𝓡 γ A B C K d → Lawful K.theory
+    {K : Ghosts A.Denot B.Denot C.Denot} {d : Dict} {cb : Clones B.Denot} {db : Dict} {cc : Clones C.Denot} {dc : Dict}
+    → Met 𝓛 𝓜 𝓡 γ A B C K d cb db cc dc → Lawful K.theory
 lawful_of m = record {
   undo = m.undo;
   swap_back = m.swap_back;

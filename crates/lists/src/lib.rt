@@ -1,4 +1,6 @@
 // Lists of lines, for every line type: the hunk as a kind of patch.
+#![tactic(auto)]
+
 ghost use Rattle.lists.specs.Hunk.{lists as the_lists};
 
 pub mod apply;

@@ -1,4 +1,6 @@
 // Modules: a document is three documents of the kind below, and a patch changes one of them.
+#![tactic(auto)]
+
 ghost use Rattle.std.specs.Prelude.{◌≡◌, ◌*◌};
 ghost use Rattle.kinds.specs.Bounded.{Applied};
 ghost use Rattle.kinds.specs.Parts.{failing};

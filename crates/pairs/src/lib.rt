@@ -1,4 +1,6 @@
 // Pairs: a patch is one step or two of the kind below, in order.
+#![tactic(auto)]
+
 ghost use Rattle.std.specs.Prelude.{◌≡◌};
 ghost use Rattle.kinds.specs.Parts.{part};
 ghost use Rattle.kinds.specs.Sequences.{answer_over};

@@ -1,4 +1,6 @@
 // Rows of patches: what a history does with them, over any kind, in memory that the caller lends.
+#![tactic(auto)]
+
 pub mod copy;
 pub mod pass;
 pub mod replay;

@@ -1,4 +1,6 @@
 // Sheets: for each of four sheets a document has a document of the kind below or none. A change makes, removes or moves a sheet, or changes it inside.
+#![tactic(auto)]
+
 ghost use Rattle.std.specs.Prelude.{◌≡◌, ◌+◌, ◌*◌, ◌<◌, ◌≤◌, ◌⊎◌, length, IfOk, nat_eq};
 ghost use Rattle.kinds.specs.Bounded.{Applied, saturated};
 ghost use Rattle.kinds.specs.Parts.{failing};

@@ -1,4 +1,6 @@
 // Sides: a document is one of each of two kinds, and a patch changes one of them.
+#![tactic(auto)]
+
 ghost use Rattle.std.specs.Prelude.{◌≡◌};
 ghost use Rattle.kinds.specs.Parts.{failing};
 ghost use Rattle.sides.specs.declared.Side.TheVariants.{Left as to_left, Right as to_right};

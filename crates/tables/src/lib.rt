@@ -1,4 +1,6 @@
 // Tables of 8 by 8 cells, each of which holds a signed 16-bit value. A patch changes the value of one cell.
+#![tactic(auto)]
+
 ghost use Rattle.std.specs.Prelude.{◌≡◌, ℕ, true, false, ℤ, is_ok, if◌then◌else◌, Some, None, ◌≢◌, slice_index};
 ghost use Rattle.kinds.specs.Bounded.{Applied};
 ghost use Rattle.tables.specs.Table.{in_table, place as place_of, in_range, word as word_of, Read, table};

@@ -1,4 +1,6 @@
 // The text of a groomer's options.
+#![tactic(auto)]
+
 pub mod changes;
 mod numbers;
 pub mod reading;

@@ -8,7 +8,7 @@ use Rattle.sheets.proofs.create.Goals as goal
 
 pub returns-in-err-at : goal.returns-in-err-at
 returns-in-err-at g c =
-    let e = err_from_is_err_and c.from-residual.result c.from-residual.ensures.1 in
+    let e = err_from_is_err_and c.from_residual.result c.from_residual.ensures.1 in
     subst (λ r. Worked g.K.Kind.theory (Create c.args.a) c.args.run.now r c.args.run.now) (sym (e.1 ∙ ap Err e.2))
     (create_fails g.K.Kind.theory (lawful_of g.met.K.Kind) c.args.width c.args.run.now c.requires c.args.a c.in-err-at.field-0.0 (sym c.in-err-at.ensures.found))
 

@@ -8,4 +8,4 @@ returns-in-Ok g c = applied_changes g.K.Kind.theory (lawful_of g.met.K.Kind) c.a
 
 pub returns-in-Err : goal.returns-in-Err
 returns-in-Err g c =
-    rw c.told-as.ensures (applied_changes g.K.Kind.theory (lawful_of g.met.K.Kind) c.args.changes.now c.args.run.now c.replay.new.run (Err c.in-Err.failure) c.in-Err.ensures)
+    rw c.told_as.ensures (applied_changes g.K.Kind.theory (lawful_of g.met.K.Kind) c.args.changes.now c.args.run.now c.replay.new.run (Err c.in-Err.failure) c.in-Err.ensures)

@@ -5,7 +5,7 @@ use Rattle.calls.proofs.show.shown.Goals as goal
 
 pub returns-in-err-sound : goal.returns-in-err-sound
 returns-in-err-sound g c w =
-    let p = err_from_is_err_and c.from-residual.result c.from-residual.ensures.1 in
+    let p = err_from_is_err_and c.from_residual.result c.from_residual.ensures.1 in
     rw (p.1, p.2, unsound g.K.Kind.theory c.args.shop.now c.args.number _ (rw c.row.ensures at c.in-err-sound.ensures)) refl
 
 pub returns : goal.returns

@@ -7,5 +7,5 @@ returns-then-n-eq0 g t c = none_grown_back g.K.Kind.theory c.args.changes.now c.
 
 pub returns : goal.returns
 returns g t c =
-    grown_back g.K.Kind.theory c.args.changes.now c.index-changes-0.result c.invert.result c.grows-by.result c.growth-of-inverse.result c.total.result
-    c.if-n-eq0.false c.index-changes-0.is c.invert.ensures c.grows-by.ensures c.growth-of-inverse.ensures c.total.ensures.lawful
+    grown_back g.K.Kind.theory c.args.changes.now c.index-changes-0.result c.invert.result c.grows_by.result c.growth_of_inverse.result c.total.result
+    c.if-n-eq0.false c.index-changes-0.is c.invert.ensures c.grows_by.ensures c.growth_of_inverse.ensures c.total.ensures.lawful

@@ -7,20 +7,20 @@ returns-then-n-eq0 g t c = record { found = none_found c.args.name c.args.row.no
 
 pub returns-then-row-name : goal.returns-then-row-name
 returns-then-row-name g t c = record {
-  found = found_first c.args.name c.args.row.now c.first-patch-count.result c.if-n-eq0.false c.first-patch-count.ensures.counted c.index-row-0.result c.if-row-name.true;
+  found = found_first c.args.name c.args.row.now c.first_patch-count.result c.if-n-eq0.false c.first_patch-count.ensures.counted c.index-row-0.result c.if-row-name.true;
   within = search rules;
 }
 
 pub returns-in-Some : goal.returns-in-Some
 returns-in-Some g t c = record {
-  found = found_later c.args.name c.args.row.now c.first-patch-count.result c.if-n-eq0.false c.first-patch-count.ensures.counted c.index-row-0.result c.if-row-name.false
+  found = found_later c.args.name c.args.row.now c.first_patch-count.result c.if-n-eq0.false c.first_patch-count.ensures.counted c.index-row-0.result c.if-row-name.false
       (Some c.in-Some.place) c.in-Some.ensures.found;
   within = let w = c.in-Some.ensures.within in search rules;
 }
 
 pub returns-in-None : goal.returns-in-None
 returns-in-None g t c = record {
-  found = found_later c.args.name c.args.row.now c.first-patch-count.result c.if-n-eq0.false c.first-patch-count.ensures.counted c.index-row-0.result c.if-row-name.false
+  found = found_later c.args.name c.args.row.now c.first_patch-count.result c.if-n-eq0.false c.first_patch-count.ensures.counted c.index-row-0.result c.if-row-name.false
       None c.in-None.ensures.found;
   within = tt;
 }

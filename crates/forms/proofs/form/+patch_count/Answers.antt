@@ -8,9 +8,9 @@ returns-then-n-eq0 g t c = sym (ap length (none_grouped c.args.row.now c.if-n-eq
 
 pub overflow-add-result : goal.overflow-add-result
 overflow-add-result g t c =
-    let e = one_patch_more c.args.row.now c.first-patch-count.result c.patch-count.result c.if-n-eq0.false c.first-patch-count.ensures.counted c.patch-count.ensures in
+    let e = one_patch_more c.args.row.now c.first_patch-count.result c.patch_count.result c.if-n-eq0.false c.first_patch-count.ensures.counted c.patch_count.ensures in
     let l = grouped_length c.args.row.now in
     search rules
 
 pub returns : goal.returns
-returns g t c = one_patch_more c.args.row.now c.first-patch-count.result c.patch-count.result c.if-n-eq0.false c.first-patch-count.ensures.counted c.patch-count.ensures
+returns g t c = one_patch_more c.args.row.now c.first_patch-count.result c.patch_count.result c.if-n-eq0.false c.first_patch-count.ensures.counted c.patch_count.ensures

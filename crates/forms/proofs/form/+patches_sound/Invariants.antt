@@ -1,5 +1,5 @@
 use Rattle.std.proofs.Common.{length}
 use Rattle.forms.proofs.form.+patches_sound.Given as goal
 
-abbrev pub decreases-patches-sound : goal.decreases-patches-sound
-decreases-patches-sound g l = length l.row.now
+abbrev pub decreases-patches_sound : goal.decreases-patches_sound
+decreases-patches_sound g l = length l.row.now

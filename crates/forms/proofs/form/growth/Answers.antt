@@ -4,4 +4,4 @@ use Rattle.forms.proofs.Growing.{growths_grouped}
 use Rattle.forms.proofs.form.growth.Goals as goal
 
 pub returns : goal.returns
-returns g c = c.growth-of.ensures ∙ ap saturated (growths_grouped g.K.Kind.theory c.args.row.now)
+returns g c = c.growth_of.ensures ∙ ap saturated (growths_grouped g.K.Kind.theory c.args.row.now)

@@ -7,5 +7,5 @@ returns-then-n-eq0 g t c = none_inverted g.K.Kind.theory c.args.patches.now c.ar
 
 pub returns : goal.returns
 returns g t c =
-    one_inverted g.K.Kind.theory c.args.patches.now c.args.row.now c.invert-into.new.row c.index-patches-0.result c.invert.result
-    c.if-n-eq0.false (c.invert.ensures ∙ ap g.K.Kind.theory.invert c.index-patches-0.is) c.invert-into.ensures
+    one_inverted g.K.Kind.theory c.args.patches.now c.args.row.now c.invert_into.new.row c.index-patches-0.result c.invert.result
+    c.if-n-eq0.false (c.invert.ensures ∙ ap g.K.Kind.theory.invert c.index-patches-0.is) c.invert_into.ensures

@@ -7,10 +7,10 @@ returns-then-n-count g t c = over_none g.K.Kind.theory c.args.row.now c.args.cou
 
 pub returns-in-Ok : goal.returns-in-Ok
 returns-in-Ok g t c =
-    over_next g.K.Kind.theory c.args.row.now c.args.count c.carry-left.new.row c.pass-rest.new.row c.pass-rest.result
-    c.in-Ok.ensures c.carry-left.auto.row c.if-n-count.false c.pass-rest.ensures
+    over_next g.K.Kind.theory c.args.row.now c.args.count c.carry_left.new.row c.pass_rest.new.row c.pass_rest.result
+    c.in-Ok.ensures c.carry_left.auto.row c.if-n-count.false c.pass_rest.ensures
 
 pub returns-in-Err : goal.returns-in-Err
 returns-in-Err g t c =
-    stopped_first g.K.Kind.theory c.args.row.now c.args.count c.carry-left.new.row _ _ c.index-row-count.result c.stop-at.result
-    c.if-n-count.false c.in-Err.ensures c.stop-at.ensures
+    stopped_first g.K.Kind.theory c.args.row.now c.args.count c.carry_left.new.row _ _ c.index-row-count.result c.stop_at.result
+    c.if-n-count.false c.in-Err.ensures c.stop_at.ensures

@@ -1,5 +1,5 @@
 use Rattle.std.proofs.Common.{length}
 use Rattle.histories.proofs.flat.+pass_rest.Given as goal
 
-abbrev pub decreases-pass-rest : goal.decreases-pass-rest
-decreases-pass-rest g l = length l.row.now
+abbrev pub decreases-pass_rest : goal.decreases-pass_rest
+decreases-pass_rest g l = length l.row.now

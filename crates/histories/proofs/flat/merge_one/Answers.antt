@@ -7,8 +7,8 @@ returns-then-row-j g c = too_short g.K.Kind.theory c.args.patches.now c.args.row
 
 pub returns-in-Ok : goal.returns-in-Ok
 returns-in-Ok g c =
-    merged_one g.K.Kind.theory c.args.patches.now c.args.row.now c.invert-into.new.row c.pass-over.new.row c.invert-into.ensures (Ok tt) c.in-Ok.ensures.whole
+    merged_one g.K.Kind.theory c.args.patches.now c.args.row.now c.invert_into.new.row c.pass_over.new.row c.invert_into.ensures (Ok tt) c.in-Ok.ensures.whole
 
 pub returns-in-Err : goal.returns-in-Err
 returns-in-Err g c =
-    merged_one g.K.Kind.theory c.args.patches.now c.args.row.now c.invert-into.new.row c.pass-over.new.row c.invert-into.ensures (Err c.in-Err.stop) c.in-Err.ensures.whole
+    merged_one g.K.Kind.theory c.args.patches.now c.args.row.now c.invert_into.new.row c.pass_over.new.row c.invert_into.ensures (Err c.in-Err.stop) c.in-Err.ensures.whole

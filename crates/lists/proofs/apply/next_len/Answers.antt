@@ -8,10 +8,10 @@ use Rattle.lists.proofs.apply.next_len.Goals as goal
 pub offset-bounds-lines-start : goal.offset-bounds-lines-start
 offset-bounds-lines-start g c =
     let m : c.args.h.start * c.words-width.result ≤ 120 * c.words-width.result = mul-le-mul_right c.words-width.result (omega (arith, c.if-end-len.false, c.requires)) in
-    record { fits = omega (arith, m, c.words-width.type-inv) }
+    record { fits = omega (arith, m, c.words-width.type_inv) }
 
-pub slice-bounds-first-difference-end : goal.slice-bounds-first-difference-end
-slice-bounds-first-difference-end g c =
+pub slice-bounds-first_difference-end : goal.slice-bounds-first_difference-end
+slice-bounds-first_difference-end g c =
     let m : (c.args.h.start + c.count.result) * c.words-width.result ≤ 120 * c.words-width.result = mul-le-mul_right c.words-width.result (omega (arith, c.if-end-len.false, c.requires)) in
     omega (arith, m, c.words-width.ensures, c.requires)
 
@@ -22,13 +22,13 @@ returns-in-Some g c = record {
       (Some c.in-Some.at) l e c.count.ensures c.words-width.ensures c.requires.0 c.if-end-len.false (omega (arith, c.if-end-len.false)) c.in-Some.ensures;
 }
 
-pub returns-then-next-gt-MOST-LINES : goal.returns-then-next-gt-MOST-LINES
-returns-then-next-gt-MOST-LINES g c =
+pub returns-then-next-gt-MOST_LINES : goal.returns-then-next-gt-MOST_LINES
+returns-then-next-gt-MOST_LINES g c =
     let next = c.args.len - c.count-2.result + c.count-3.result in
     record {
       within = tt;
       told = λ d l e.
-          sym (cond-true (ltb most next) _ _ (lt-ltb most next c.if-next-gt-MOST-LINES.true))
+          sym (cond-true (ltb most next) _ _ (lt-ltb most next c.if-next-gt-MOST_LINES.true))
           ∙ told_by_words g.L.Line.form g.met.L.Line.filled g.met.L.Line.read_back c.args.h d c.args.lines.now c.args.len next c.count.result c.words-width.result
           None l e c.count.ensures c.words-width.ensures c.requires.0 c.if-end-len.false (omega (arith, c.count.ensures, c.count-2.ensures, c.count-3.ensures, c.if-end-len.false)) c.in-default.ensures;
     }
@@ -37,9 +37,9 @@ pub returns : goal.returns
 returns g c =
     let next = c.args.len - c.count-2.result + c.count-3.result in
     record {
-      within = (omega (arith, c.count.ensures, c.if-end-len.false), omega (arith, c.count.ensures, c.count-2.ensures, c.count-3.ensures, c.if-end-len.false), c.if-next-gt-MOST-LINES.false);
+      within = (omega (arith, c.count.ensures, c.if-end-len.false), omega (arith, c.count.ensures, c.count-2.ensures, c.count-3.ensures, c.if-end-len.false), c.if-next-gt-MOST_LINES.false);
       told = λ d l e.
-          sym (cond-false (ltb most next) _ _ (le-ltb most next c.if-next-gt-MOST-LINES.false))
+          sym (cond-false (ltb most next) _ _ (le-ltb most next c.if-next-gt-MOST_LINES.false))
           ∙ told_by_words g.L.Line.form g.met.L.Line.filled g.met.L.Line.read_back c.args.h d c.args.lines.now c.args.len next c.count.result c.words-width.result
           None l e c.count.ensures c.words-width.ensures c.requires.0 c.if-end-len.false (omega (arith, c.count.ensures, c.count-2.ensures, c.count-3.ensures, c.if-end-len.false)) c.in-default.ensures;
     }

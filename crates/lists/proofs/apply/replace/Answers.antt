@@ -7,7 +7,7 @@ use Rattle.lists.proofs.apply.replace.Goals as goal
 pub offset-bounds-lines-start : goal.offset-bounds-lines-start
 offset-bounds-lines-start g c =
     let m : c.args.h.start * c.words-width.result ≤ 120 * c.words-width.result = mul-le-mul_right c.words-width.result (omega (arith, c.requires.within)) in
-    record { fits = omega (arith, m, c.words-width.type-inv) }
+    record { fits = omega (arith, m, c.words-width.type_inv) }
 
 pub slice-bounds-part-count : goal.slice-bounds-part-count
 slice-bounds-part-count g c = mul-le-mul_right c.words-width.result (omega (arith, c.max.ensures, c.requires.within))
@@ -20,8 +20,8 @@ slice-bounds-part-end g c =
     top_fits c.args.len c.args.next c.max.result c.words-width.result g.L.Line.form.width (length c.args.lines.now) c.max.ensures c.requires.within.1.1.0 c.requires.within.1.1.1
     c.words-width.ensures c.requires.room.1
 
-pub make-room-requires : goal.make-room-requires
-make-room-requires g c =
+pub make_room-requires : goal.make_room-requires
+make_room-requires g c =
     let s = c.args.h.start in
     let top = c.max.result in
     let w = c.words-width.result in
@@ -31,8 +31,8 @@ make-room-requires g c =
       lines_fit s c.count-2.result top w lines (omega (arith, c.count-2.ensures, c.max.ensures, c.requires.within)) fits,
     )
 
-pub write-lines-requires : goal.write-lines-requires
-write-lines-requires g c =
+pub write_lines-requires : goal.write_lines-requires
+write_lines-requires g c =
     let s = c.args.h.start in
     let top = c.max.result in
     let w = c.words-width.result in
@@ -41,7 +41,7 @@ write-lines-requires g c =
     let n : c.count-2.result * w ≡ count c.args.h.new * g.L.Line.form.width = λ i. c.count-2.ensures i * v i in
     let fits = top_fits c.args.len c.args.next top w g.L.Line.form.width (length lines) c.max.ensures c.requires.within.1.1.0 c.requires.within.1.1.1 c.words-width.ensures c.requires.room.1 in
     let room = lines_fit s c.count-2.result top w lines (omega (arith, c.count-2.ensures, c.max.ensures, c.requires.within)) fits in
-    (omega (arith, c.requires.room), omega (arith, room, n, c.make-room.auto.run))
+    (omega (arith, c.requires.room), omega (arith, room, n, c.make_room.auto.run))
 
 pub returns : goal.returns
 returns g c d e l t q =
@@ -49,4 +49,4 @@ returns g c d e l t q =
     c.args.len c.args.next c.max.result c.count.result c.count-2.result c.words-width.result
     l c.count.ensures c.count-2.ensures (omega (arith, c.words-width.ensures, c.requires.room))
     (omega (arith, c.count.ensures, c.count-2.ensures, c.requires.within)) c.max.ensures c.requires.within.1.1.0 c.requires.within.1.1.1
-    c.args.lines.now c.make-room.new.run c.write-lines.new.run q c.make-room.ensures c.write-lines.ensures
+    c.args.lines.now c.make_room.new.run c.write_lines.new.run q c.make_room.ensures c.write_lines.ensures

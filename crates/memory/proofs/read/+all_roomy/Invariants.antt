@@ -1,5 +1,5 @@
 use Rattle.std.proofs.Common.{length}
 use Rattle.memory.proofs.read.+all_roomy.Given as goal
 
-abbrev pub decreases-all-roomy : goal.decreases-all-roomy
-decreases-all-roomy g l = length l.repositories.now
+abbrev pub decreases-all_roomy : goal.decreases-all_roomy
+decreases-all_roomy g l = length l.repositories.now

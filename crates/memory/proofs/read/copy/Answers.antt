@@ -8,5 +8,5 @@ returns-then-work-count g c = record { count = ap length c.row-changes.ensures; 
 pub returns : goal.returns
 returns g c = record {
   count = ap length c.row-changes.ensures;
-  work = covers c.args.work.now c.row-changes.result.now _ c.row-changes.ensures c.copy-from-slice.new.self c.if-work-count.false c.copy-from-slice.ensures.after;
+  work = covers c.args.work.now c.row-changes.result.now _ c.row-changes.ensures c.copy_from_slice.new.self c.if-work-count.false c.copy_from_slice.ensures.after;
 }

@@ -10,5 +10,5 @@ offset-bounds-row-n g t c = let h : length c.args.row.now - 1 < length c.args.ro
 
 pub returns : goal.returns
 returns g t c =
-    one_inverted g.K.Kind.theory c.args.name c.args.changes.now c.args.row.now c.write-inverses.new.row c.index-changes-0.result c.invert.result
-    c.if-n-eq0.false c.invert.ensures c.write-inverses.ensures
+    one_inverted g.K.Kind.theory c.args.name c.args.changes.now c.args.row.now c.write_inverses.new.row c.index-changes-0.result c.invert.result
+    c.if-n-eq0.false c.invert.ensures c.write_inverses.ensures

@@ -8,5 +8,5 @@ returns-then-n-eq0 g t c = none_written c.args.row.now _ _ (length-map c.args.ch
 
 pub returns : goal.returns
 returns g t c =
-    one_named c.args.name c.args.changes.now c.args.row.now c.write-named.new.row c.index-changes-0.result c.if-n-eq0.false c.index-changes-0.is
-    c.write-named.ensures
+    one_named c.args.name c.args.changes.now c.args.row.now c.write_named.new.row c.index-changes-0.result c.if-n-eq0.false c.index-changes-0.is
+    c.write_named.ensures

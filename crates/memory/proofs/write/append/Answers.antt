@@ -7,7 +7,7 @@ returns-then-number-gt3 g c = record { rows = no_change c.args.shop.now c.args.n
 
 pub returns : goal.returns
 returns g c = record {
-  rows = rows_appended c.args.shop.now c.args.number c.if-number-gt3.false c.index-shop-number.result c.append-changes.new.repository _ c.append-changes.ensures.changes;
-  rooms = rooms_kept c.args.shop.now c.args.number c.if-number-gt3.false c.index-shop-number.result c.append-changes.new.repository c.append-changes.ensures.room;
+  rows = rows_appended c.args.shop.now c.args.number c.if-number-gt3.false c.index-shop-number.result c.append_changes.new.repository _ c.append_changes.ensures.changes;
+  rooms = rooms_kept c.args.shop.now c.args.number c.if-number-gt3.false c.index-shop-number.result c.append_changes.new.repository c.append_changes.ensures.room;
   counter = refl;
 }

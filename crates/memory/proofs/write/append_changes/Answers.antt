@@ -18,7 +18,7 @@ pub returns : goal.returns
 returns g c = record {
   changes =
       all_appended c.args.repository.now.row c.args.repository.now.count (length c.args.changes.now) _ refl (let w = c.args.repository.now.within in omega arith)
-      c.deref-mut.result.now c.write-named.new.row _ c.deref-mut.ensures.value
-      (length-map c.args.changes.now (under c.args.name)) c.write-named.ensures;
+      c.deref_mut.result.now c.write_named.new.row _ c.deref_mut.ensures.value
+      (length-map c.args.changes.now (under c.args.name)) c.write_named.ensures;
   room = same_room c.args.repository.now.row _;
 }

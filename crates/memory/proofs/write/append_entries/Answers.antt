@@ -16,7 +16,7 @@ pub returns : goal.returns
 returns g c = record {
   changes =
       all_appended c.args.repository.now.row c.args.repository.now.count (length c.args.entries.now) _ refl (let w = c.args.repository.now.within in omega arith)
-      c.deref-mut.result.now c.copy-from-slice.new.self _ c.deref-mut.ensures.value
-      refl (λ _. c.copy-from-slice.ensures.after);
+      c.deref_mut.result.now c.copy_from_slice.new.self _ c.deref_mut.ensures.value
+      refl (λ _. c.copy_from_slice.ensures.after);
   room = same_room c.args.repository.now.row _;
 }

@@ -7,7 +7,7 @@ returns-then-number-gt3 g c = record { rows = no_change c.args.shop.now c.args.n
 
 pub returns : goal.returns
 returns g c = record {
-  rows = rows_appended c.args.shop.now c.args.number c.if-number-gt3.false c.index-shop-number.result c.append-inverses.new.repository _ (rw c.part-patch.ensures at c.append-inverses.ensures.changes);
-  rooms = rooms_kept c.args.shop.now c.args.number c.if-number-gt3.false c.index-shop-number.result c.append-inverses.new.repository c.append-inverses.ensures.room;
+  rows = rows_appended c.args.shop.now c.args.number c.if-number-gt3.false c.index-shop-number.result c.append_inverses.new.repository _ (rw c.part-patch.ensures at c.append_inverses.ensures.changes);
+  rooms = rooms_kept c.args.shop.now c.args.number c.if-number-gt3.false c.index-shop-number.result c.append_inverses.new.repository c.append_inverses.ensures.room;
   counter = refl;
 }

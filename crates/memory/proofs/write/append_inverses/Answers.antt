@@ -17,7 +17,7 @@ pub returns : goal.returns
 returns g c = record {
   changes =
       all_appended c.args.repository.now.row c.args.repository.now.count (length c.args.patch.now) _ refl (let w = c.args.repository.now.within in omega arith)
-      c.deref-mut.result.now c.write-inverses.new.row _ c.deref-mut.ensures.value
-      (inverted_length g.K.Kind.theory c.args.name c.args.patch.now) c.write-inverses.ensures;
+      c.deref_mut.result.now c.write_inverses.new.row _ c.deref_mut.ensures.value
+      (inverted_length g.K.Kind.theory c.args.name c.args.patch.now) c.write_inverses.ensures;
   room = same_room c.args.repository.now.row _;
 }

@@ -7,7 +7,7 @@ returns-then-number-gt3 g c = record { rows = no_change c.args.shop.now c.args.n
 
 pub returns : goal.returns
 returns g c = record {
-  rows = rows_appended c.args.shop.now c.args.number c.if-number-gt3.false c.index-shop-number.result c.append-entries.new.repository _ (rw c.part-entries.ensures at c.append-entries.ensures.changes);
-  rooms = rooms_kept c.args.shop.now c.args.number c.if-number-gt3.false c.index-shop-number.result c.append-entries.new.repository c.append-entries.ensures.room;
+  rows = rows_appended c.args.shop.now c.args.number c.if-number-gt3.false c.index-shop-number.result c.append_entries.new.repository _ (rw c.part-entries.ensures at c.append_entries.ensures.changes);
+  rooms = rooms_kept c.args.shop.now c.args.number c.if-number-gt3.false c.index-shop-number.result c.append_entries.new.repository c.append_entries.ensures.room;
   counter = refl;
 }

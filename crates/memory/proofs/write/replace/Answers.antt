@@ -7,7 +7,7 @@ returns-then-number-gt3 g c = record { rows = no_change c.args.shop.now c.args.n
 
 pub returns : goal.returns
 returns g c = record {
-  rows = rows_replaced c.args.shop.now c.args.number c.if-number-gt3.false c.index-shop-number.result c.replace-entries.new.repository _ _ c.replace-entries.ensures.changes;
-  rooms = rooms_kept c.args.shop.now c.args.number c.if-number-gt3.false c.index-shop-number.result c.replace-entries.new.repository c.replace-entries.ensures.room;
+  rows = rows_replaced c.args.shop.now c.args.number c.if-number-gt3.false c.index-shop-number.result c.replace_entries.new.repository _ _ c.replace_entries.ensures.changes;
+  rooms = rooms_kept c.args.shop.now c.args.number c.if-number-gt3.false c.index-shop-number.result c.replace_entries.new.repository c.replace_entries.ensures.room;
   counter = refl;
 }

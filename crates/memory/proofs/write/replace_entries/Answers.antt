@@ -16,7 +16,7 @@ invariant-of-repository g c = (still_within c.args.repository.now.row 0 c.args.c
 pub returns : goal.returns
 returns g c = record {
   changes =
-      all_replaced c.args.repository.now.row c.args.count c.deref-mut.result.now c.copy-from-slice.new.self _ c.args.work.now
-      c.deref-mut.ensures.value c.if-work-count.false (omega arith) c.copy-from-slice.ensures.after;
+      all_replaced c.args.repository.now.row c.args.count c.deref_mut.result.now c.copy_from_slice.new.self _ c.args.work.now
+      c.deref_mut.ensures.value c.if-work-count.false (omega arith) c.copy_from_slice.ensures.after;
   room = same_room c.args.repository.now.row _;
 }

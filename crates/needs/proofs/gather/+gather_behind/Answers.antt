@@ -7,30 +7,30 @@ use Rattle.needs.proofs.gather.+gather_behind.Goals as goal
 pub returns-then-n-others : goal.returns-then-n-others
 returns-then-n-others g t c = none_left (named g.K.Kind.theory) (λ c. c.name) c.args.needs.now c.args.row.now c.args.others c.if-n-others.true
 
-pub returns-in-err-carry-left : goal.returns-in-err-carry-left
-returns-in-err-carry-left g t c =
-    let p = err_from_is_err_and c.from-residual.result c.from-residual.ensures.1 in
+pub returns-in-err-carry_left : goal.returns-in-err-carry_left
+returns-in-err-carry_left g t c =
+    let p = err_from_is_err_and c.from_residual.result c.from_residual.ensures.1 in
     rw (p.1, p.2) (stopped (named g.K.Kind.theory) (λ c. c.name) c.args.needs.now c.args.row.now c.args.others c.index-row-others.result c.if-n-others.false
-    c.if-holds-name.ensures c.carry-left.new.row _ _ c.in-err-carry-left.ensures)
+    c.if-holds_name.ensures c.carry_left.new.row _ _ c.in-err-carry_left.ensures)
 
 pub returns-in-err-more : goal.returns-in-err-more
 returns-in-err-more g t c =
-    let p = err_from_is_err_and c.from-residual-in-err-more.result c.from-residual-in-err-more.ensures.1 in
+    let p = err_from_is_err_and c.from_residual-in-err-more.result c.from_residual-in-err-more.ensures.1 in
     rw (p.1, p.2) (came (named g.K.Kind.theory) (λ c. c.name) c.args.needs.now c.args.row.now c.args.others c.index-row-others.result c.if-n-others.false
-    c.if-holds-name.ensures c.carry-left.new.row c.gather-behind.new.row (Err c.in-err-more.field-0.0) c.in-ok-carry-left.ensures c.carry-left.auto.row c.in-err-more.ensures)
+    c.if-holds_name.ensures c.carry_left.new.row c.gather_behind.new.row (Err c.in-err-more.field-0.0) c.in-ok-carry_left.ensures c.carry_left.auto.row c.in-err-more.ensures)
 
 pub overflow-add-result : goal.overflow-add-result
 overflow-add-result g t c =
     let h = room (named g.K.Kind.theory) (λ c. c.name) c.args.needs.now c.args.row.now c.args.others c.index-row-others.result c.if-n-others.false
-    c.if-holds-name.ensures c.carry-left.new.row c.gather-behind.new.row c.in-ok-more.more c.carry-left.auto.row c.gather-behind.auto.row c.in-ok-more.ensures in
+    c.if-holds_name.ensures c.carry_left.new.row c.gather_behind.new.row c.in-ok-more.more c.carry_left.auto.row c.gather_behind.auto.row c.in-ok-more.ensures in
     omega arith
 
 pub returns-in-ok-more : goal.returns-in-ok-more
 returns-in-ok-more g t c =
     came (named g.K.Kind.theory) (λ c. c.name) c.args.needs.now c.args.row.now c.args.others c.index-row-others.result c.if-n-others.false
-    c.if-holds-name.ensures c.carry-left.new.row c.gather-behind.new.row _ c.in-ok-carry-left.ensures c.carry-left.auto.row c.in-ok-more.ensures
+    c.if-holds_name.ensures c.carry_left.new.row c.gather_behind.new.row _ c.in-ok-carry_left.ensures c.carry_left.auto.row c.in-ok-more.ensures
 
-pub returns-else-holds-name : goal.returns-else-holds-name
-returns-else-holds-name g t c =
+pub returns-else-holds_name : goal.returns-else-holds_name
+returns-else-holds_name g t c =
     skipped (named g.K.Kind.theory) (λ c. c.name) c.args.needs.now c.args.row.now c.args.others c.index-row-others.result c.if-n-others.false
-    c.if-holds-name.ensures _ _ c.gather-behind-else-holds-name.ensures
+    c.if-holds_name.ensures _ _ c.gather_behind-else-holds_name.ensures

@@ -1,5 +1,5 @@
 use Rattle.std.proofs.Common.{◌-◌, length}
 use Rattle.needs.proofs.gather.+gather_behind.Given as goal
 
-abbrev pub decreases-gather-behind : goal.decreases-gather-behind
-decreases-gather-behind g l = length l.row.now - l.others
+abbrev pub decreases-gather_behind : goal.decreases-gather_behind
+decreases-gather_behind g l = length l.row.now - l.others

@@ -9,4 +9,4 @@ returns-then-row-name g t c = held_first (λ c. c.name) c.args.name c.args.row.n
 
 pub returns-else-row-name : goal.returns-else-row-name
 returns-else-row-name g t c =
-    held_later (λ c. c.name) c.args.name c.args.row.now c.index-row-0.result c.holds-name.result c.if-n-eq0.false c.if-row-name.false c.holds-name.ensures
+    held_later (λ c. c.name) c.args.name c.args.row.now c.index-row-0.result c.holds_name.result c.if-n-eq0.false c.if-row-name.false c.holds_name.ensures

@@ -9,7 +9,7 @@ loop-i-preserved c = λ h.
     let e = start_next c.args.parts.now c.loop-i.i c.index-parts-i.result (omega arith) c.index-parts-i.is in
     let k = ap (λ (p : Part). p.count) c.index-parts-i.is in
     let s = c.loop-i.invariant (omega arith) in
-    c.saturating-add-sum.ensures ∙ min-eq_left (omega arith) ∙ omega arith
+    c.saturating_add-sum.ensures ∙ min-eq_left (omega arith) ∙ omega arith
 
 pub returns : goal.returns
 returns c = λ h.

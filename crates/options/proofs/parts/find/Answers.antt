@@ -13,8 +13,8 @@ name_at parts i x p bytes h e s = ap (λ (q : Part). vec_items q.name) (get_or_d
 pub returns-then-eq : goal.returns-then-eq
 returns-then-eq c = (
   c.loop-i-test.true,
-  λ p. name_at c.args.parts.now c.loop-i.i c.index-parts-i.result p c.as-slice.result.now c.loop-i-test.true c.index-parts-i.is c.as-slice.ensures.value
-      ∙ (slice_eq-Decides Decides-eqb c.as-slice.result.now c.args.name.now c.eq.result c.eq.ensures).0 c.if-eq.true,
+  λ p. name_at c.args.parts.now c.loop-i.i c.index-parts-i.result p c.as_slice.result.now c.loop-i-test.true c.index-parts-i.is c.as_slice.ensures.value
+      ∙ (slice_eq-Decides Decides-eqb c.as_slice.result.now c.args.name.now c.eq.result c.eq.ensures).0 c.if-eq.true,
   c.loop-i.invariant,
 )
 
@@ -23,8 +23,8 @@ loop-i-preserved c = λ j p h e. ⊎_elim
     (λ below. c.loop-i.invariant j p below e)
     (λ above.
     let same : j ≡ c.loop-i.i = omega arith in
-    let equal = (slice_eq-Decides Decides-eqb c.as-slice.result.now c.args.name.now c.eq.result c.eq.ensures).1
-    (sym (name_at c.args.parts.now c.loop-i.i c.index-parts-i.result p c.as-slice.result.now c.loop-i-test.true c.index-parts-i.is c.as-slice.ensures.value)
+    let equal = (slice_eq-Decides Decides-eqb c.as_slice.result.now c.args.name.now c.eq.result c.eq.ensures).1
+    (sym (name_at c.args.parts.now c.loop-i.i c.index-parts-i.result p c.as_slice.result.now c.loop-i-test.true c.index-parts-i.is c.as_slice.ensures.value)
     ∙ subst (λ (k : ℕ). vec_items (get_or c.args.parts.now k p).name ≡ c.args.name.now) same e) in
     true≢false (sym equal ∙ c.if-eq.false))
     (cases_lt j c.loop-i.i)

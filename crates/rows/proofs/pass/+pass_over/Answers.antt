@@ -7,19 +7,19 @@ returns-then-n-count g t c =
     let h = none_behind g.K.Kind.theory c.args.row.now c.args.count c.if-n-count.true in
     record { passed = h; whole = whole g.K.Kind.theory c.args.row.now c.args.count _ _ h; within = tt }
 
-pub returns-in-Ok-pass-over : goal.returns-in-Ok-pass-over
-returns-in-Ok-pass-over g t c =
-    let h = next_front g.K.Kind.theory c.args.row.now c.args.count c.if-n-count.false c.carry-left.new.row c.pass-over.new.row _
-    c.in-Ok.ensures c.carry-left.auto.row c.in-Ok-pass-over.ensures.passed in
+pub returns-in-Ok-pass_over : goal.returns-in-Ok-pass_over
+returns-in-Ok-pass_over g t c =
+    let h = next_front g.K.Kind.theory c.args.row.now c.args.count c.if-n-count.false c.carry_left.new.row c.pass_over.new.row _
+    c.in-Ok.ensures c.carry_left.auto.row c.in-Ok-pass_over.ensures.passed in
     record { passed = h; whole = whole g.K.Kind.theory c.args.row.now c.args.count _ _ h; within = tt }
 
-pub returns-in-Err-pass-over : goal.returns-in-Err-pass-over
-returns-in-Err-pass-over g t c =
-    let h = next_front g.K.Kind.theory c.args.row.now c.args.count c.if-n-count.false c.carry-left.new.row c.pass-over.new.row _
-    c.in-Ok.ensures c.carry-left.auto.row c.in-Err-pass-over.ensures.passed in
+pub returns-in-Err-pass_over : goal.returns-in-Err-pass_over
+returns-in-Err-pass_over g t c =
+    let h = next_front g.K.Kind.theory c.args.row.now c.args.count c.if-n-count.false c.carry_left.new.row c.pass_over.new.row _
+    c.in-Ok.ensures c.carry_left.auto.row c.in-Err-pass_over.ensures.passed in
     record { passed = h; whole = whole g.K.Kind.theory c.args.row.now c.args.count _ _ h; within = within g.K.Kind.theory c.args.row.now c.args.count _ _ h }
 
 pub returns-in-Err : goal.returns-in-Err
 returns-in-Err g t c =
-    let h = stopped_front g.K.Kind.theory c.args.row.now c.args.count c.if-n-count.false _ c.carry-left.new.row _ c.in-Err.ensures in
+    let h = stopped_front g.K.Kind.theory c.args.row.now c.args.count c.if-n-count.false _ c.carry_left.new.row _ c.in-Err.ensures in
     record { passed = h; whole = whole g.K.Kind.theory c.args.row.now c.args.count _ _ h; within = within g.K.Kind.theory c.args.row.now c.args.count _ _ h }

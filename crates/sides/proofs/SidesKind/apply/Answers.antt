@@ -10,8 +10,8 @@ returns-in-Left g c =
     let room : roomy (sides g.L.Kind.theory g.R.Kind.theory) (length c.args.run.now) ≡ true = search rules in
     record {
       applied = left_applied g.L.Kind.theory g.R.Kind.theory (lawful_of g.met.L.Kind) (lawful_of g.met.R.Kind) c.args.run.now room
-          c.args.p c.in-Left.a c.apply.result c.at-left.result c.apply.new.run c.words-middle.result
-          c.in-Left.is c.words-middle.ensures c.apply.ensures c.at-left.ensures;
+          c.args.p c.in-Left.a c.apply.result c.at_left.result c.apply.new.run c.words-middle.result
+          c.in-Left.is c.words-middle.ensures c.apply.ensures c.at_left.ensures;
       others = left_others g.L.Kind.theory g.R.Kind.theory (lawful_of g.met.L.Kind) (lawful_of g.met.R.Kind) c.args.run.now room
           c.args.p c.in-Left.a c.apply.new.run c.words-middle.result c.in-Left.is c.words-middle.ensures c.apply.auto.run;
     }
@@ -21,8 +21,8 @@ returns-in-Right g c =
     let room : roomy (sides g.L.Kind.theory g.R.Kind.theory) (length c.args.run.now) ≡ true = search rules in
     record {
       applied = right_applied g.L.Kind.theory g.R.Kind.theory (lawful_of g.met.L.Kind) (lawful_of g.met.R.Kind) c.args.run.now room
-          c.args.p c.in-Right.b c.apply-in-Right.result c.at-right.result c.apply-in-Right.new.run c.words-middle.result
-          c.in-Right.is c.words-middle.ensures c.apply-in-Right.ensures c.at-right.ensures;
+          c.args.p c.in-Right.b c.apply-in-Right.result c.at_right.result c.apply-in-Right.new.run c.words-middle.result
+          c.in-Right.is c.words-middle.ensures c.apply-in-Right.ensures c.at_right.ensures;
       others = right_others g.L.Kind.theory g.R.Kind.theory (lawful_of g.met.L.Kind) (lawful_of g.met.R.Kind) c.args.run.now room
           c.args.p c.in-Right.b c.apply-in-Right.new.run c.words-middle.result c.in-Right.is c.words-middle.ensures c.apply-in-Right.auto.run;
     }

@@ -11,7 +11,7 @@ returns-then-run-place c =
     let at = found c.args.p.cell c.in-Some.place c.in-Some.ensures in
     let n = long _ _ c.words.ensures c.if-not-roomy.ensures in
     let f : SFits w16 c.args.p.old = search rules in
-    let w = stored _ _ f c.cell-word.ensures.modulo in
+    let w = stored _ _ f c.cell_word.ensures.modulo in
     record {
       applied = faulted c.args.p c.args.run.now n (λ _ h. c.if-run-place.true (ap (λ k. get_or c.args.run.now k 0) at.1 ∙ h ∙ sym w));
       failed = λ _. refl;
@@ -24,8 +24,8 @@ returns c =
     let n = long _ _ c.words.ensures c.if-not-roomy.ensures in
     let f : SFits w16 c.args.p.old = search rules in
     let g : SFits w16 c.args.p.new = search rules in
-    let v = stored _ _ f c.cell-word.ensures.modulo in
-    let w = stored _ _ g c.cell-word-2.ensures.modulo in
+    let v = stored _ _ f c.cell_word.ensures.modulo in
+    let w = stored _ _ g c.cell_word-2.ensures.modulo in
     let h = ap (λ k. get_or c.args.run.now k 0) (sym at.1) ∙ c.if-run-place.false ∙ v in
     let s = ap₂ (set c.args.run.now) at.1 w in
     record {

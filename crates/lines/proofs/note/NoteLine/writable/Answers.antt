@@ -3,4 +3,4 @@ use Rattle.lines.specs.Note.{text_and_zeros}
 use Rattle.lines.proofs.note.NoteLine.writable.Goals as goal
 
 pub returns : goal.returns
-returns c = c.is-text-and-zeros.ensures ∙ ap text_and_zeros c.bytes.ensures
+returns c = c.is_text_and_zeros.ensures ∙ ap text_and_zeros c.bytes.ensures
