@@ -13,7 +13,7 @@ use Rattle.rows.specs.Replay.{Replayed}
 use Rattle.histories.specs.declared.named.Named.{Named}
 use Rattle.histories.specs.Named.{under, named, patches}
 use Rattle.histories.specs.History.{replay}
-use Rattle.histories.proofs.NamedLaws.{named_lawful}
+use Rattle.histories.specs.Proofs.NamedLaws.{named_lawful}
 use Rattle.histories.specs.Flat.{flat_of, flat}
 use Rattle.forms.specs.Form.{grouped, sound}
 use Rattle.forms.proofs.Grouping.{flat_grouped}

@@ -10,7 +10,7 @@ use Rattle.kinds.proofs.Sequences.{sequences_lawful}
 use Rattle.histories.specs.declared.named.Named.{Named}
 use Rattle.histories.specs.Named.{under, patches}
 use Rattle.histories.specs.History.{replay}
-use Rattle.histories.proofs.NamedLaws.{patches_lawful}
+use Rattle.histories.specs.Proofs.NamedLaws.{patches_lawful}
 use Rattle.histories.specs.Flat.{flat}
 use Rattle.forms.specs.Form.{grouped, sound, most_patches, most_changes}
 use Rattle.shop.specs.declared.refusal.Refusal.{Refusal}

@@ -8,7 +8,7 @@ use Rattle.kinds.specs.Restricted.{restricted}
 use Rattle.histories.specs.declared.named.Named.{Named}
 use Rattle.histories.specs.Named.{one_to_eight, patches}
 use Rattle.histories.specs.History.{commuted_at, passed}
-use Rattle.histories.proofs.NamedLaws.{names_kept, patches_lawful}
+use Rattle.histories.specs.Proofs.NamedLaws.{names_kept, patches_lawful}
 use Rattle.histories.proofs.Names.{Distinct, distinct_left, not_held, in_one_place}
 use Rattle.histories.proofs.Rearranging.{stays_distinct}
 use Rattle.histories.proofs.Setting.{Setting}

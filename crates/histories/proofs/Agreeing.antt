@@ -8,7 +8,7 @@ use Rattle.kinds.proofs.Sequences.{of_run, room_along}
 use Rattle.histories.specs.Runs.{Run}
 use Rattle.histories.specs.Named.{one_to_eight}
 use Rattle.histories.specs.Agreement.{WellFormed, Agreement, HistoriesAgree}
-use Rattle.histories.proofs.NamedLaws.{names_kept, patches_lawful}
+use Rattle.histories.specs.Proofs.NamedLaws.{names_kept, patches_lawful}
 use Rattle.histories.proofs.Setting.{Setting}
 use Rattle.histories.proofs.Names.{Distinct, not_held, in_one_place, in_of_holds, holds_of_in, distinct_left}
 use Rattle.histories.proofs.Rearranging.{to_left, stays_distinct}

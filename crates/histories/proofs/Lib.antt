@@ -1,4 +1,3 @@
-pub mod NamedLaws
 pub mod Setting
 pub mod Names
 pub mod Rearranging

@@ -3,3 +3,4 @@ pub mod History
 pub mod Runs
 pub mod Agreement
 pub mod Flat
+pub mod Proofs

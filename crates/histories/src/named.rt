@@ -1,4 +1,6 @@
 // Changes of any kind, each under a name: a kind again.
+ghost use Rattle.kinds.proofs.Bound.{lawful_by};
+ghost use Rattle.histories.specs.Proofs.NamedLaws.{named_lawful};
 ghost use Rattle.histories.specs.Named.{named as the_named};
 
 use kinds::answers::{Clash, Failure};
@@ -22,6 +24,24 @@ impl<K: Kind> Kind for Labelled<K> {
     type Fault = K::Fault;
 
     ghost theory = { the_named K.Kind.theory };
+
+    ghost undo = { (named_lawful K.Kind.theory (lawful_by K.undo K.swap_back K.same_effect K.turning K.three K.growth K.reach K.stays_written K.held_in_words)).undo };
+
+    ghost swap_back = { (named_lawful K.Kind.theory (lawful_by K.undo K.swap_back K.same_effect K.turning K.three K.growth K.reach K.stays_written K.held_in_words)).swap_back };
+
+    ghost same_effect = { (named_lawful K.Kind.theory (lawful_by K.undo K.swap_back K.same_effect K.turning K.three K.growth K.reach K.stays_written K.held_in_words)).same_effect };
+
+    ghost turning = { (named_lawful K.Kind.theory (lawful_by K.undo K.swap_back K.same_effect K.turning K.three K.growth K.reach K.stays_written K.held_in_words)).turning };
+
+    ghost three = { (named_lawful K.Kind.theory (lawful_by K.undo K.swap_back K.same_effect K.turning K.three K.growth K.reach K.stays_written K.held_in_words)).three };
+
+    ghost growth = { (named_lawful K.Kind.theory (lawful_by K.undo K.swap_back K.same_effect K.turning K.three K.growth K.reach K.stays_written K.held_in_words)).grows };
+
+    ghost reach = { (named_lawful K.Kind.theory (lawful_by K.undo K.swap_back K.same_effect K.turning K.three K.growth K.reach K.stays_written K.held_in_words)).reach };
+
+    ghost stays_written = { (named_lawful K.Kind.theory (lawful_by K.undo K.swap_back K.same_effect K.turning K.three K.growth K.reach K.stays_written K.held_in_words)).stays_written };
+
+    ghost held_in_words = { (named_lawful K.Kind.theory (lawful_by K.undo K.swap_back K.same_effect K.turning K.three K.growth K.reach K.stays_written K.held_in_words)).held_in_words };
 
     fn words() -> u32 {
         K::words()

@@ -7,7 +7,8 @@ use mir.Syntax.{Dict}
 use prog.Model.{Model}
 use prog.Routine.{Env}
 use Rattle.std.specs.declared.clone.Clone.{Ghosts as Clones}
-use Rattle.kinds.specs.Laws.{Lawful}
+use Rattle.kinds.specs.Theory.{Theory}
+use Rattle.kinds.specs.Laws.{Undo, SwapBack, SameEffect, Turning, Three, Growth, Reach, StaysWritten, HeldInWords, Lawful}
 use Rattle.kinds.specs.contracts.kind.Kind.TheBound.{Met}
 use Rattle.kinds.specs.declared.kind.Kind.{Ghosts}
 
@@ -24,4 +25,18 @@ lawful_of m = record {
   reach = m.reach;
   stays_written = m.stays_written;
   held_in_words = m.held_in_words;
+}
+
+-- The same of a bound's laws one by one, as an impl names them.
+pub lawful_by : {P F : Type 0} {T : Theory P F} → Undo T → SwapBack T → SameEffect T → Turning T → Three T → Growth T → Reach T → StaysWritten T → HeldInWords T → Lawful T
+lawful_by undo swap_back same_effect turning three growth reach stays_written held_in_words = record {
+  undo = undo;
+  swap_back = swap_back;
+  same_effect = same_effect;
+  turning = turning;
+  three = three;
+  grows = growth;
+  reach = reach;
+  stays_written = stays_written;
+  held_in_words = held_in_words;
 }

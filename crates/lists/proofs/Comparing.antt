@@ -13,7 +13,7 @@ use Rattle.lists.specs.declared.hunk.ListFault.{ListFault}
 use Rattle.lists.specs.declared.hunk.ListFault.TheVariants.{Differs}
 use Rattle.lines.specs.Line.{Form}
 use Rattle.lists.specs.Hunk.{lines_of, count, first_differing, filled_up, lists}
-use Rattle.lists.proofs.Filling.{Fills, Reads, joined_three, length_joined}
+use Rattle.lists.specs.Proofs.Filling.{Fills, Reads, joined_three, length_joined}
 
 module _ {L : Type 0} (F : Form L) where
   -- whether a run holds a line, as the code tells it

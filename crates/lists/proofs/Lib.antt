@@ -1,8 +1,3 @@
-pub mod Places
-pub mod Steps
-pub mod Exchanges
-pub mod Filling
-pub mod Lawful
 pub mod Moves
 pub mod Comparing
 pub mod Replacing

@@ -11,8 +11,8 @@ use Rattle.lists.specs.declared.hunk.Lines.TheVariants.{the_data as Lines, Two}
 use Rattle.lists.specs.declared.hunk.Hunk.{Hunk}
 use Rattle.lines.specs.Line.{Form}
 use Rattle.lists.specs.Hunk.{lines_of, count, filled_up}
-use Rattle.lists.proofs.Filling.{Fills, joined_three, length_joined}
-use Rattle.lists.proofs.Steps.{Step, sizes}
+use Rattle.lists.specs.Proofs.Filling.{Fills, joined_three, length_joined}
+use Rattle.lists.specs.Proofs.Steps.{Step, sizes}
 use Rattle.lists.proofs.Moves.{two_written}
 
 -- a run that is as long as a line is filled

@@ -1,1 +1,2 @@
 pub mod Hunk
+pub mod Proofs

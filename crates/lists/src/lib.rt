@@ -1,6 +1,7 @@
 // Lists of lines, for every line type: the hunk as a kind of patch.
 #![tactic(auto)]
 
+ghost use Rattle.lists.specs.Proofs.Lawful.{lawful};
 ghost use Rattle.lists.specs.Hunk.{lists as the_lists};
 
 pub mod apply;
@@ -23,6 +24,24 @@ impl<L: Line> Kind for Lists<L> {
     type Fault = ListFault;
 
     ghost theory = { the_lists L.Line.form };
+
+    ghost undo = { (lawful L.Line.form L.filled L.read_back L.tells_same).undo };
+
+    ghost swap_back = { (lawful L.Line.form L.filled L.read_back L.tells_same).swap_back };
+
+    ghost same_effect = { (lawful L.Line.form L.filled L.read_back L.tells_same).same_effect };
+
+    ghost turning = { (lawful L.Line.form L.filled L.read_back L.tells_same).turning };
+
+    ghost three = { (lawful L.Line.form L.filled L.read_back L.tells_same).three };
+
+    ghost growth = { (lawful L.Line.form L.filled L.read_back L.tells_same).grows };
+
+    ghost reach = { (lawful L.Line.form L.filled L.read_back L.tells_same).reach };
+
+    ghost stays_written = { (lawful L.Line.form L.filled L.read_back L.tells_same).stays_written };
+
+    ghost held_in_words = { (lawful L.Line.form L.filled L.read_back L.tells_same).held_in_words };
 
     fn words() -> u32 {
         list_words::<L>()

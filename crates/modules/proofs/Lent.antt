@@ -16,7 +16,7 @@ use Rattle.kinds.proofs.Slots.{step_from, step_length, slot_of_all, all_after, s
 use Rattle.modules.specs.declared.InModule.{InModule}
 use Rattle.modules.specs.declared.ModuleFault.TheVariants.{the_data as ModuleFault, NoModule, Inside}
 use Rattle.modules.specs.Modules.{modules}
-use Rattle.modules.proofs.ModuleLaws.{below}
+use Rattle.modules.specs.Proofs.ModuleLaws.{below}
 
 module _ {P F : Type 0} (T : Theory P F) (l : Lawful T) (c : InModule P) (was : List ℕ) where
   abbrev m : ℕ

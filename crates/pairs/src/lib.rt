@@ -4,6 +4,8 @@
 ghost use Rattle.std.specs.Prelude.{◌≡◌};
 ghost use Rattle.kinds.specs.Parts.{part};
 ghost use Rattle.kinds.specs.Sequences.{answer_over};
+ghost use Rattle.kinds.proofs.Bound.{lawful_by};
+ghost use Rattle.pairs.specs.Proofs.PairLaws.{lawful};
 ghost use Rattle.pairs.specs.Pairs.{listed, pairs as the_pairs};
 
 use kinds::answers::{Clash, Failure};
@@ -45,6 +47,24 @@ impl<K: Kind> Kind for Pairs<K> {
     type Fault = AtStep<K::Fault>;
 
     ghost theory = { the_pairs K.Kind.theory };
+
+    ghost undo = { (lawful K.theory (lawful_by K.undo K.swap_back K.same_effect K.turning K.three K.growth K.reach K.stays_written K.held_in_words)).undo };
+
+    ghost swap_back = { (lawful K.theory (lawful_by K.undo K.swap_back K.same_effect K.turning K.three K.growth K.reach K.stays_written K.held_in_words)).swap_back };
+
+    ghost same_effect = { (lawful K.theory (lawful_by K.undo K.swap_back K.same_effect K.turning K.three K.growth K.reach K.stays_written K.held_in_words)).same_effect };
+
+    ghost turning = { (lawful K.theory (lawful_by K.undo K.swap_back K.same_effect K.turning K.three K.growth K.reach K.stays_written K.held_in_words)).turning };
+
+    ghost three = { (lawful K.theory (lawful_by K.undo K.swap_back K.same_effect K.turning K.three K.growth K.reach K.stays_written K.held_in_words)).three };
+
+    ghost growth = { (lawful K.theory (lawful_by K.undo K.swap_back K.same_effect K.turning K.three K.growth K.reach K.stays_written K.held_in_words)).grows };
+
+    ghost reach = { (lawful K.theory (lawful_by K.undo K.swap_back K.same_effect K.turning K.three K.growth K.reach K.stays_written K.held_in_words)).reach };
+
+    ghost stays_written = { (lawful K.theory (lawful_by K.undo K.swap_back K.same_effect K.turning K.three K.growth K.reach K.stays_written K.held_in_words)).stays_written };
+
+    ghost held_in_words = { (lawful K.theory (lawful_by K.undo K.swap_back K.same_effect K.turning K.three K.growth K.reach K.stays_written K.held_in_words)).held_in_words };
 
     fn words() -> u32 {
         K::words()

@@ -1,5 +1,1 @@
-pub mod Places
-pub mod Passing
-pub mod Doing
-pub mod SheetLaws
 pub mod Working

@@ -23,7 +23,7 @@ use Rattle.sheets.specs.declared.Sheet.{Sheet}
 use Rattle.sheets.specs.declared.SheetChange.TheVariants.{the_data as SheetChange, Create, Remove, Move, Inside}
 use Rattle.sheets.specs.declared.SheetFault.TheVariants.{the_data as SheetFault, NotFresh, Inside as InSheet}
 use Rattle.sheets.specs.Sheets.{if_there, if_absent, sheet_size, sheet_fits, sheet_encode, absent, sheets, touches, Others, told, there_at, absent_at, moved_words, FourSheets, Worked}
-use Rattle.sheets.proofs.SheetLaws.{sheet_holds}
+use Rattle.sheets.specs.Proofs.SheetLaws.{sheet_holds}
 
 -- all words are zero just if they are that many zeros
 zeros_tell : (v : List ℕ) → Decides (every (λ x. eqb x 0) v) (v ≡ replicate (length v) 0)

@@ -7,6 +7,8 @@ ghost use Rattle.kinds.specs.Parts.{failing};
 ghost use Rattle.kinds.specs.Slots.{every};
 ghost use Rattle.sheets.specs.declared.SheetFault.TheVariants.{Inside as in_sheet};
 ghost use Rattle.sheets.specs.declared.SheetChange.TheVariants.{Create as creating, Remove as removing, Move as moving, Inside as changing};
+ghost use Rattle.kinds.proofs.Bound.{lawful_by};
+ghost use Rattle.sheets.specs.Proofs.SheetLaws.{lawful};
 ghost use Rattle.sheets.specs.Sheets.{touches as is_of, share as are_of_one, there_at, absent_at, moved_words, FourSheets, Worked, Others, sheets as the_sheets};
 
 use kinds::answers::{Clash, Failure};
@@ -213,6 +215,24 @@ impl<K: Kind> Kind for Sheets<K> {
     type Fault = SheetFault<K::Fault>;
 
     ghost theory = { the_sheets K.Kind.theory };
+
+    ghost undo = { (lawful K.Kind.theory (lawful_by K.undo K.swap_back K.same_effect K.turning K.three K.growth K.reach K.stays_written K.held_in_words)).undo };
+
+    ghost swap_back = { (lawful K.Kind.theory (lawful_by K.undo K.swap_back K.same_effect K.turning K.three K.growth K.reach K.stays_written K.held_in_words)).swap_back };
+
+    ghost same_effect = { (lawful K.Kind.theory (lawful_by K.undo K.swap_back K.same_effect K.turning K.three K.growth K.reach K.stays_written K.held_in_words)).same_effect };
+
+    ghost turning = { (lawful K.Kind.theory (lawful_by K.undo K.swap_back K.same_effect K.turning K.three K.growth K.reach K.stays_written K.held_in_words)).turning };
+
+    ghost three = { (lawful K.Kind.theory (lawful_by K.undo K.swap_back K.same_effect K.turning K.three K.growth K.reach K.stays_written K.held_in_words)).three };
+
+    ghost growth = { (lawful K.Kind.theory (lawful_by K.undo K.swap_back K.same_effect K.turning K.three K.growth K.reach K.stays_written K.held_in_words)).grows };
+
+    ghost reach = { (lawful K.Kind.theory (lawful_by K.undo K.swap_back K.same_effect K.turning K.three K.growth K.reach K.stays_written K.held_in_words)).reach };
+
+    ghost stays_written = { (lawful K.Kind.theory (lawful_by K.undo K.swap_back K.same_effect K.turning K.three K.growth K.reach K.stays_written K.held_in_words)).stays_written };
+
+    ghost held_in_words = { (lawful K.Kind.theory (lawful_by K.undo K.swap_back K.same_effect K.turning K.three K.growth K.reach K.stays_written K.held_in_words)).held_in_words };
 
     fn words() -> u32 {
         total(COUNT as u32, sheet_words::<K>(), 0)

@@ -12,7 +12,7 @@ use Rattle.histories.specs.declared.Stop.TheVariants.{By, TooFar}
 use Rattle.histories.specs.declared.named.Named.{Named}
 use Rattle.histories.specs.Named.{under, one_to_eight, patches}
 use Rattle.histories.specs.History.{Block, commuted_at, passed, over_block, or_joins, block, merged}
-use Rattle.histories.proofs.NamedLaws.{down}
+use Rattle.histories.specs.Proofs.NamedLaws.{down}
 use Rattle.histories.proofs.Stops.{ok_not_err, the_ok, commuted_ok}
 use Rattle.histories.specs.Flat.{flat_of, flat}
 use Rattle.shop.specs.State.{History}

@@ -6,6 +6,8 @@ ghost use Rattle.kinds.specs.Parts.{failing};
 ghost use Rattle.sides.specs.declared.Side.TheVariants.{Left as to_left, Right as to_right};
 ghost use Rattle.kinds.specs.Bounded.{Applied};
 ghost use Rattle.kinds.specs.Slots.{Around};
+ghost use Rattle.kinds.proofs.Bound.{lawful_by};
+ghost use Rattle.sides.specs.Proofs.SideLaws.{lawful};
 ghost use Rattle.sides.specs.Sides.{sides as the_sides, side_start, side_width};
 
 use kinds::answers::{Clash, Failure};
@@ -50,6 +52,24 @@ impl<L: Kind, R: Kind> Kind for Sides<L, R> {
     type Fault = Side<L::Fault, R::Fault>;
 
     ghost theory = { the_sides L.Kind.theory R.Kind.theory };
+
+    ghost undo = { (lawful L.Kind.theory R.Kind.theory (lawful_by L.undo L.swap_back L.same_effect L.turning L.three L.growth L.reach L.stays_written L.held_in_words) (lawful_by R.undo R.swap_back R.same_effect R.turning R.three R.growth R.reach R.stays_written R.held_in_words)).undo };
+
+    ghost swap_back = { (lawful L.Kind.theory R.Kind.theory (lawful_by L.undo L.swap_back L.same_effect L.turning L.three L.growth L.reach L.stays_written L.held_in_words) (lawful_by R.undo R.swap_back R.same_effect R.turning R.three R.growth R.reach R.stays_written R.held_in_words)).swap_back };
+
+    ghost same_effect = { (lawful L.Kind.theory R.Kind.theory (lawful_by L.undo L.swap_back L.same_effect L.turning L.three L.growth L.reach L.stays_written L.held_in_words) (lawful_by R.undo R.swap_back R.same_effect R.turning R.three R.growth R.reach R.stays_written R.held_in_words)).same_effect };
+
+    ghost turning = { (lawful L.Kind.theory R.Kind.theory (lawful_by L.undo L.swap_back L.same_effect L.turning L.three L.growth L.reach L.stays_written L.held_in_words) (lawful_by R.undo R.swap_back R.same_effect R.turning R.three R.growth R.reach R.stays_written R.held_in_words)).turning };
+
+    ghost three = { (lawful L.Kind.theory R.Kind.theory (lawful_by L.undo L.swap_back L.same_effect L.turning L.three L.growth L.reach L.stays_written L.held_in_words) (lawful_by R.undo R.swap_back R.same_effect R.turning R.three R.growth R.reach R.stays_written R.held_in_words)).three };
+
+    ghost growth = { (lawful L.Kind.theory R.Kind.theory (lawful_by L.undo L.swap_back L.same_effect L.turning L.three L.growth L.reach L.stays_written L.held_in_words) (lawful_by R.undo R.swap_back R.same_effect R.turning R.three R.growth R.reach R.stays_written R.held_in_words)).grows };
+
+    ghost reach = { (lawful L.Kind.theory R.Kind.theory (lawful_by L.undo L.swap_back L.same_effect L.turning L.three L.growth L.reach L.stays_written L.held_in_words) (lawful_by R.undo R.swap_back R.same_effect R.turning R.three R.growth R.reach R.stays_written R.held_in_words)).reach };
+
+    ghost stays_written = { (lawful L.Kind.theory R.Kind.theory (lawful_by L.undo L.swap_back L.same_effect L.turning L.three L.growth L.reach L.stays_written L.held_in_words) (lawful_by R.undo R.swap_back R.same_effect R.turning R.three R.growth R.reach R.stays_written R.held_in_words)).stays_written };
+
+    ghost held_in_words = { (lawful L.Kind.theory R.Kind.theory (lawful_by L.undo L.swap_back L.same_effect L.turning L.three L.growth L.reach L.stays_written L.held_in_words) (lawful_by R.undo R.swap_back R.same_effect R.turning R.three R.growth R.reach R.stays_written R.held_in_words)).held_in_words };
 
     fn words() -> u32 {
         total(1, L::words(), R::words())

@@ -6,31 +6,31 @@ use Rattle.sheets.specs.Sheets.{Worked}
 use Rattle.sheets.proofs.Working.{move_no_source, move_no_target, sheets_apart, move_works}
 use Rattle.sheets.proofs.move_sheet.Goals as goal
 
-pub returns-in-err-source : goal.returns-in-err-source
-returns-in-err-source g c =
+pub returns-in_err-source : goal.returns-in_err-source
+returns-in_err-source g c =
     let e = err_from_is_err_and c.from_residual.result c.from_residual.ensures.1 in
     subst (λ r. Worked g.K.Kind.theory (Move c.args.from c.args.to) c.args.run.now r c.args.run.now) (sym (e.1 ∙ ap Err e.2))
-    (move_no_source g.K.Kind.theory (lawful_of g.met.K.Kind) c.args.width c.args.run.now c.requires c.args.from c.args.to c.in-err-source.field-0.0 (sym c.in-err-source.ensures.found))
+    (move_no_source g.K.Kind.theory (lawful_of g.met.K.Kind) c.args.width c.args.run.now c.requires c.args.from c.args.to c.in_err-source.field-0.0 (sym c.in_err-source.ensures.found))
 
-pub returns-in-err-target : goal.returns-in-err-target
-returns-in-err-target g c =
-    let e = err_from_is_err_and c.from_residual-in-err-target.result c.from_residual-in-err-target.ensures.1 in
+pub returns-in_err-target : goal.returns-in_err-target
+returns-in_err-target g c =
+    let e = err_from_is_err_and c.from_residual-in_err-target.result c.from_residual-in_err-target.ensures.1 in
     subst (λ r. Worked g.K.Kind.theory (Move c.args.from c.args.to) c.args.run.now r c.args.run.now) (sym (e.1 ∙ ap Err e.2))
-    (move_no_target g.K.Kind.theory (lawful_of g.met.K.Kind) c.args.width c.args.run.now c.requires c.args.from c.args.to c.in-ok-source.source c.in-err-target.field-0.0
-    (sym c.in-ok-source.ensures.found) (sym c.in-err-target.ensures.found))
+    (move_no_target g.K.Kind.theory (lawful_of g.met.K.Kind) c.args.width c.args.run.now c.requires c.args.from c.args.to c.in_ok-source.source c.in_err-target.field-0.0
+    (sym c.in_ok-source.ensures.found) (sym c.in_err-target.ensures.found))
 
 pub move_words-requires : goal.move_words-requires
 move_words-requires g c = (
-  c.in-ok-source.ensures.within,
+  c.in_ok-source.ensures.within,
   (
-    c.in-ok-target.ensures.within,
-    sheets_apart g.K.Kind.theory (lawful_of g.met.K.Kind) c.args.width c.args.run.now c.requires c.args.from c.args.to c.in-ok-source.source c.in-ok-target.target
-        (sym c.in-ok-source.ensures.found) (sym c.in-ok-target.ensures.found),
+    c.in_ok-target.ensures.within,
+    sheets_apart g.K.Kind.theory (lawful_of g.met.K.Kind) c.args.width c.args.run.now c.requires c.args.from c.args.to c.in_ok-source.source c.in_ok-target.target
+        (sym c.in_ok-source.ensures.found) (sym c.in_ok-target.ensures.found),
   ),
 )
 
 pub returns : goal.returns
 returns g c =
     subst (λ v. Worked g.K.Kind.theory (Move c.args.from c.args.to) c.args.run.now _ v) (sym c.move_words.ensures)
-    (move_works g.K.Kind.theory (lawful_of g.met.K.Kind) c.args.width c.args.run.now c.requires c.args.from c.args.to c.in-ok-source.source c.in-ok-target.target
-    (sym c.in-ok-source.ensures.found) (sym c.in-ok-target.ensures.found))
+    (move_works g.K.Kind.theory (lawful_of g.met.K.Kind) c.args.width c.args.run.now c.requires c.args.from c.args.to c.in_ok-source.source c.in_ok-target.target
+    (sym c.in_ok-source.ensures.found) (sym c.in_ok-target.ensures.found))

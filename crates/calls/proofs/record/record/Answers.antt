@@ -7,9 +7,9 @@ use Rattle.calls.proofs.record.record.Goals as goal
 
 pub returns-in-Ok : goal.returns-in-Ok
 returns-in-Ok g c =
-    let roomy = run_roomy g.K.Kind.theory (rooms c.args.shop.now) (length c.args.run.now) c.in-ok-room_to_show.ensures in
+    let roomy = run_roomy g.K.Kind.theory (rooms c.args.shop.now) (length c.args.run.now) c.in_ok-room_to_show.ensures in
     let (d, e, is) = record_done g.K.Kind.theory c.args.shop.now c.args.number c.args.changes.now c.in-Ok.name (length c.args.run.now) c.recorded.new.run (rows_of c.append.new.shop)
-    c.in-ok-in_shop.ensures c.in-ok-room_to_show.ensures c.in-ok-a_patch.ensures (c.in-Ok.ensures.document roomy) c.in-Ok.ensures.name c.append.ensures.rows in
+    c.in_ok-in_shop.ensures c.in_ok-room_to_show.ensures c.in_ok-a_patch.ensures (c.in-Ok.ensures.document roomy) c.in-Ok.ensures.name c.append.ensures.rows in
     record {
       answer = rw e refl;
       state = rw e refl;
@@ -21,9 +21,9 @@ returns-in-Ok g c =
 
 pub returns-in-Err : goal.returns-in-Err
 returns-in-Err g c =
-    let roomy = run_roomy g.K.Kind.theory (rooms c.args.shop.now) (length c.args.run.now) c.in-ok-room_to_show.ensures in
+    let roomy = run_roomy g.K.Kind.theory (rooms c.args.shop.now) (length c.args.run.now) c.in_ok-room_to_show.ensures in
     let (e, zeros) = record_refused g.K.Kind.theory (record { rows = rooms c.args.shop.now; run = Some (length c.args.run.now) }) (state_of c.args.shop.now) c.args.number c.args.changes.now c.in-Err.refusal c.args.run.now c.recorded.new.run
-    c.in-ok-in_shop.ensures c.in-ok-room_to_show.ensures c.in-ok-a_patch.ensures (c.in-Err.ensures.document roomy) in
+    c.in_ok-in_shop.ensures c.in_ok-room_to_show.ensures c.in_ok-a_patch.ensures (c.in-Err.ensures.document roomy) in
     record {
       answer = rw e refl;
       state = rw e refl;

@@ -5,13 +5,13 @@ use Rattle.lists.specs.Hunk.{count}
 use Rattle.lists.proofs.Comparing.{told_by_words}
 use Rattle.lists.proofs.apply.next_len.Goals as goal
 
-pub offset-bounds-lines-start : goal.offset-bounds-lines-start
-offset-bounds-lines-start g c =
+pub offset_bounds-lines-start : goal.offset_bounds-lines-start
+offset_bounds-lines-start g c =
     let m : c.args.h.start * c.words-width.result ≤ 120 * c.words-width.result = mul-le-mul_right c.words-width.result (omega (arith, c.if-end-len.false, c.requires)) in
     record { fits = omega (arith, m, c.words-width.type_inv) }
 
-pub slice-bounds-first_difference-end : goal.slice-bounds-first_difference-end
-slice-bounds-first_difference-end g c =
+pub slice_bounds-first_difference-end : goal.slice_bounds-first_difference-end
+slice_bounds-first_difference-end g c =
     let m : (c.args.h.start + c.count.result) * c.words-width.result ≤ 120 * c.words-width.result = mul-le-mul_right c.words-width.result (omega (arith, c.if-end-len.false, c.requires)) in
     omega (arith, m, c.words-width.ensures, c.requires)
 
@@ -30,7 +30,7 @@ returns-then-next-gt-MOST_LINES g c =
       told = λ d l e.
           sym (cond-true (ltb most next) _ _ (lt-ltb most next c.if-next-gt-MOST_LINES.true))
           ∙ told_by_words g.L.Line.form g.met.L.Line.filled g.met.L.Line.read_back c.args.h d c.args.lines.now c.args.len next c.count.result c.words-width.result
-          None l e c.count.ensures c.words-width.ensures c.requires.0 c.if-end-len.false (omega (arith, c.count.ensures, c.count-2.ensures, c.count-3.ensures, c.if-end-len.false)) c.in-default.ensures;
+          None l e c.count.ensures c.words-width.ensures c.requires.0 c.if-end-len.false (omega (arith, c.count.ensures, c.count-2.ensures, c.count-3.ensures, c.if-end-len.false)) c.in_default.ensures;
     }
 
 pub returns : goal.returns
@@ -41,5 +41,5 @@ returns g c =
       told = λ d l e.
           sym (cond-false (ltb most next) _ _ (le-ltb most next c.if-next-gt-MOST_LINES.false))
           ∙ told_by_words g.L.Line.form g.met.L.Line.filled g.met.L.Line.read_back c.args.h d c.args.lines.now c.args.len next c.count.result c.words-width.result
-          None l e c.count.ensures c.words-width.ensures c.requires.0 c.if-end-len.false (omega (arith, c.count.ensures, c.count-2.ensures, c.count-3.ensures, c.if-end-len.false)) c.in-default.ensures;
+          None l e c.count.ensures c.words-width.ensures c.requires.0 c.if-end-len.false (omega (arith, c.count.ensures, c.count-2.ensures, c.count-3.ensures, c.if-end-len.false)) c.in_default.ensures;
     }

@@ -7,11 +7,11 @@ use Rattle.lists.specs.declared.hunk.Hunk.{Hunk}
 use Rattle.lists.specs.declared.hunk.ListFault.{ListFault}
 use Rattle.lines.specs.Line.{Form}
 use Rattle.lists.specs.Hunk.{lines_of, count, moved, exchanged, hunks_commute, hunk_apply, too_long, start_too_far, last_start, all_written, hunk_written, lists}
-use Rattle.lists.proofs.Places.{Place, Swap, way}
-use Rattle.lists.proofs.Places as places
-use Rattle.lists.proofs.Steps.{Step, Tells, sizes, takes_from_step, step_from_takes}
-use Rattle.lists.proofs.Exchanges.{Moved, Exchange, place, there, onward, returned, flipped, exchange_from_commutes, commutes_from_exchange, same_effect}
-use Rattle.lists.proofs.Filling.{Fills, Reads, length_filled_up, same_lists}
+use Rattle.lists.specs.Proofs.Places.{Place, Swap, way}
+use Rattle.lists.specs.Proofs.Places as places
+use Rattle.lists.specs.Proofs.Steps.{Step, Tells, sizes, takes_from_step, step_from_takes}
+use Rattle.lists.specs.Proofs.Exchanges.{Moved, Exchange, place, there, onward, returned, flipped, exchange_from_commutes, commutes_from_exchange, same_effect}
+use Rattle.lists.specs.Proofs.Filling.{Fills, Reads, length_filled_up, same_lists}
 
 -- the parts of a hunk that can be written
 record Written {L : Type 0} (F : Form L) (h : Hunk L) : Type 0 where

@@ -3,8 +3,8 @@ use Rattle.std.proofs.Common.{◌≡◌, ℕ, ◌+◌, ◌-◌, ◌≤◌, Bool,
 use Rattle.std.proofs.lemmas.Bool.{ltb-true, ltb-false, lt-ltb, le-ltb}
 use Rattle.lists.specs.declared.hunk.Hunk.{Hunk}
 use Rattle.lists.specs.Hunk.{lines_of, count, moved, exchanged, hunks_commute}
-use Rattle.lists.proofs.Places.{Place, Swap, After, Before, way}
-use Rattle.lists.proofs.Steps.{Step}
+use Rattle.lists.specs.Proofs.Places.{Place, Swap, After, Before, way}
+use Rattle.lists.specs.Proofs.Steps.{Step}
 
 module _ {L : Type 0} where
   abbrev pub place : Hunk L → Place

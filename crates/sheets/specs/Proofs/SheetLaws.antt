@@ -14,9 +14,9 @@ use Rattle.sheets.specs.declared.Sheet.{Sheet}
 use Rattle.sheets.specs.declared.SheetChange.TheVariants.{the_data as SheetChange, Create, Remove, Move, Inside}
 use Rattle.sheets.specs.declared.SheetFault.TheVariants.{the_data as SheetFault}
 use Rattle.sheets.specs.Sheets.{same_sheet, sheet_invert, sheet_growth, sheet_far, sheet_size, sheet_fits, sheet_encode, absent, sheets}
-use Rattle.sheets.proofs.Places.{stays, moved}
-use Rattle.sheets.proofs.Passing.{Change, coded, read, coded_read, inverted, coded_inverted, Passes, ops, over, under, slots, passes, commutes, passes_back, passes_turn, passes_three}
-use Rattle.sheets.proofs.Doing.{Sheets, Does, creates, removes, moves, changes, does, takes, does_back, does_forward}
+use Rattle.sheets.specs.Proofs.Places.{stays, moved}
+use Rattle.sheets.specs.Proofs.Passing.{Change, coded, read, coded_read, inverted, coded_inverted, Passes, ops, over, under, slots, passes, commutes, passes_back, passes_turn, passes_three}
+use Rattle.sheets.specs.Proofs.Doing.{Sheets, Does, creates, removes, moves, changes, does, takes, does_back, does_forward}
 
 module _ {P F : Type 0} (T : Theory P F) (l : Lawful T) where
   abbrev S : Theory (SheetChange P) (SheetFault F)

@@ -11,7 +11,7 @@ use Rattle.kinds.proofs.Placed.{Placed, one, apart, placed_back, placed_turn, pl
 use Rattle.sheets.specs.declared.Sheet.{Sheet}
 use Rattle.sheets.specs.declared.SheetChange.TheVariants.{the_data as SheetChange, Create, Remove, Move, Inside}
 use Rattle.sheets.specs.Sheets.{same_sheet, touches, share, sharing_commute, sheet_commute, sheet_invert, sheets}
-use Rattle.sheets.proofs.Places.{Op, create, remove, move, turned, Of, Disjoint, of_turned, Carries, stays, moved, carries_back, carries_forth, carries_one, carries_apart}
+use Rattle.sheets.specs.Proofs.Places.{Op, create, remove, move, turned, Of, Disjoint, of_turned, Carries, stays, moved, carries_back, carries_forth, carries_one, carries_apart}
 
 -- a change: an operation, or a patch in a place
 pub data Change (P : Type 0) : Type 0 where

@@ -12,8 +12,8 @@ use Rattle.sheets.specs.declared.Sheet.{Sheet}
 use Rattle.sheets.specs.declared.SheetChange.TheVariants.{the_data as SheetChange, Create, Remove, Move, Inside}
 use Rattle.sheets.specs.declared.SheetFault.TheVariants.{the_data as SheetFault, NotFresh, Inside as InSheet}
 use Rattle.sheets.specs.Sheets.{if_there, if_absent, sheets}
-use Rattle.sheets.proofs.Places.{create, remove, move, Of, stays, moved}
-use Rattle.sheets.proofs.Passing.{Change, op, inside, read, Touched, Unshared, inverted, Passes, ops, over, under, slots}
+use Rattle.sheets.specs.Proofs.Places.{create, remove, move, Of, stays, moved}
+use Rattle.sheets.specs.Proofs.Passing.{Change, op, inside, read, Touched, Unshared, inverted, Passes, ops, over, under, slots}
 
 there_ok : {D E F : Type 0} (a : Sheet) (f : D → Result E (SheetFault F)) (o : Option (Option D)) (e : E) → if_there a f o ≡ Ok e
     → (x : D) × (o ≡ Some (Some x)) × (f x ≡ Ok e)

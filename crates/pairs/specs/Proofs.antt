@@ -1,0 +1,2 @@
+-- Proofs of the laws that the impl names. No contract cites them.
+pub mod PairLaws
