@@ -6,8 +6,8 @@ use Rattle.forms.proofs.form.+patch_count.Goals as goal
 pub returns-then-n-eq0 : goal.returns-then-n-eq0
 returns-then-n-eq0 g t c = sym (ap length (none_grouped c.args.row.now c.if-n-eq0.true))
 
-pub overflow-add-result : goal.overflow-add-result
-overflow-add-result g t c =
+pub overflow_add-result : goal.overflow_add-result
+overflow_add-result g t c =
     let e = one_patch_more c.args.row.now c.first_patch-count.result c.patch_count.result c.if-n-eq0.false c.first_patch-count.ensures.counted c.patch_count.ensures in
     let l = grouped_length c.args.row.now in
     search rules

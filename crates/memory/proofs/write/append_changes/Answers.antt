@@ -10,8 +10,8 @@ returns-then-len-start g c = record {
   room = refl;
 }
 
-pub invariant-of-repository : goal.invariant-of-repository
-invariant-of-repository g c =
+pub invariant_of-repository : goal.invariant_of-repository
+invariant_of-repository g c =
     (still_within c.args.repository.now.row c.args.repository.now.count (length c.args.changes.now) _ refl (let w = c.args.repository.now.within in omega arith) _, tt)
 
 pub returns : goal.returns

@@ -10,8 +10,8 @@ returns-then-work-count g c = record {
   room = refl;
 }
 
-pub invariant-of-repository : goal.invariant-of-repository
-invariant-of-repository g c = (still_within c.args.repository.now.row 0 c.args.count c.args.count (omega arith) (omega arith) _, tt)
+pub invariant_of-repository : goal.invariant_of-repository
+invariant_of-repository g c = (still_within c.args.repository.now.row 0 c.args.count c.args.count (omega arith) (omega arith) _, tt)
 
 pub returns : goal.returns
 returns g c = record {

@@ -13,7 +13,7 @@ returns-in-Ok g c = record {
 pub returns-in-Err-By : goal.returns-in-Err-By
 returns-in-Err-By g c = record {
   found = joins g.K.Kind.theory c.args.row.now c.args.work.now c.args.first c.args.count _ c.pass_to_end.new.row c.in-Err-By.ensures
-      c.in-Err-By.-name c.saturating_sub-before.result (search rules) c.saturating_sub-before.ensures c.copy_row-in-Err-By.new.to
+      c.in-Err-By._name c.saturating_sub-before.result (search rules) c.saturating_sub-before.ensures c.copy_row-in-Err-By.new.to
       (λ n. copied_back c.args.row.now c.args.work.now c.pass_to_end.new.row c.copy_row.new.to c.copy_row-in-Err-By.new.to n
       c.pass_to_end.auto.row c.copy_row.ensures c.copy_row-in-Err-By.ensures);
   within = search rules;

@@ -19,8 +19,8 @@ returns-in_err-more g t c =
     rw (p.1, p.2) (came (named g.K.Kind.theory) (λ c. c.name) c.args.needs.now c.args.row.now c.args.others c.index-row-others.result c.if-n-others.false
     c.if-holds_name.ensures c.carry_left.new.row c.gather_behind.new.row (Err c.in_err-more.field-0.0) c.in_ok-carry_left.ensures c.carry_left.auto.row c.in_err-more.ensures)
 
-pub overflow-add-result : goal.overflow-add-result
-overflow-add-result g t c =
+pub overflow_add-result : goal.overflow_add-result
+overflow_add-result g t c =
     let h = room (named g.K.Kind.theory) (λ c. c.name) c.args.needs.now c.args.row.now c.args.others c.index-row-others.result c.if-n-others.false
     c.if-holds_name.ensures c.carry_left.new.row c.gather_behind.new.row c.in_ok-more.more c.carry_left.auto.row c.gather_behind.auto.row c.in_ok-more.ensures in
     omega arith
