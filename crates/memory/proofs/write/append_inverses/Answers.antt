@@ -11,7 +11,7 @@ returns-then-len-start g c = record {
 
 pub invariant_of-repository : goal.invariant_of-repository
 invariant_of-repository g c =
-    (still_within c.args.repository.now.row c.args.repository.now.count (length c.args.patch.now) _ refl (let w = c.args.repository.now.within in omega arith) _, tt)
+    record { within = still_within c.args.repository.now.row c.args.repository.now.count (length c.args.patch.now) _ refl (let w = c.args.repository.now.within in omega arith) _ }
 
 pub returns : goal.returns
 returns g c = record {

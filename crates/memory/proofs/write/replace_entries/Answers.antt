@@ -11,7 +11,7 @@ returns-then-work-count g c = record {
 }
 
 pub invariant_of-repository : goal.invariant_of-repository
-invariant_of-repository g c = (still_within c.args.repository.now.row 0 c.args.count c.args.count (omega arith) (omega arith) _, tt)
+invariant_of-repository g c = record { within = still_within c.args.repository.now.row 0 c.args.count c.args.count (omega arith) (omega arith) _ }
 
 pub returns : goal.returns
 returns g c = record {
