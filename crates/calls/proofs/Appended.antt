@@ -1,5 +1,5 @@
 -- A history with a recorded patch at its end.
-use Rattle.std.proofs.Common.{◌≡◌, ℕ, ◌+◌, ◌<◌, ◌≤◌, Bool, true, false, cond, ◌&&◌, ltb, leb, List, [], ◌∷◌, ◌++◌, map, length, get_or, set, replicate, Some, Ok, Err, Result, sym, refl, ap, ◌∙◌, subst, ⊎_elim, arith}
+use Rattle.std.proofs.Common.{◌≡◌, ℕ, ◌+◌, ◌<◌, ◌≤◌, Bool, true, false, cond, ◌&&◌, ltb, leb, List, [], ◌∷◌, ◌++◌, map, length, set, replicate, Some, Ok, Err, Result, sym, refl, ap, ◌∙◌, subst, ⊎_elim, arith}
 use lib.ListN.{length-map}
 use Rattle.std.proofs.lemmas.List.{map-set}
 use Rattle.std.proofs.lemmas.Bool.{and_parts, ltb-true, leb-true, le-leb}
@@ -23,7 +23,7 @@ use Rattle.shop.specs.Refusals.{number}
 use Rattle.shop.specs.State.{History, State, at, with_history, with_name}
 use Rattle.shop.specs.Calls.{Memory, all_long, or_refused, in_shop, enough, a_patch, sound_at, a_name_left, room_for, document, record_patch}
 use Rattle.shop.specs.Held.{room as room_of, rooms, rows_of, row_at, state_of}
-use Rattle.memory.specs.Write.{appended, room_at, appended_at}
+use Rattle.memory.specs.Write.{room_at, appended_at}
 use Rattle.calls.specs.Run.{run_after, LeftInRun, new_document}
 use Rattle.calls.proofs.LongRows.{long_at}
 use Rattle.calls.proofs.Recorded.{left_done, left_refused}

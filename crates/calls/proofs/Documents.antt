@@ -1,10 +1,10 @@
 -- The document of a history, from its flat row.
-use Rattle.std.proofs.Common.{◌≡◌, ℕ, ◌+◌, ◌≤◌, Bool, true, false, cond, List, [], ◌∷◌, ◌++◌, map, length, Ok, Err, Result, sym, refl, ap, ◌∙◌, subst, arith}
+use Rattle.std.proofs.Common.{◌≡◌, ℕ, ◌+◌, ◌≤◌, true, false, cond, List, [], ◌∷◌, ◌++◌, map, length, Ok, Err, Result, sym, refl, ap, ◌∙◌, subst, arith}
 use Rattle.kinds.specs.declared.answers.Failure.{Failure}
-use Rattle.kinds.specs.declared.answers.Failure.TheVariants.{Length, Overfull, Fault as Faulty}
+use Rattle.kinds.specs.declared.answers.Failure.TheVariants.{Overfull, Fault as Faulty}
 use Rattle.kinds.specs.declared.steps.AtStep.{AtStep}
 use Rattle.kinds.specs.Theory.{Theory}
-use Rattle.kinds.specs.Bounded.{roomy, outcome, holding, done_or_fault, Applied}
+use Rattle.kinds.specs.Bounded.{roomy, holding, done_or_fault, Applied}
 use Rattle.kinds.specs.Laws.{most, Lawful}
 use Rattle.kinds.specs.Parts.{part}
 use Rattle.kinds.specs.Sequences.{apply_from, growths, full_along, sequences}
@@ -18,7 +18,7 @@ use Rattle.histories.specs.Flat.{flat_of, flat}
 use Rattle.forms.specs.Form.{grouped, sound}
 use Rattle.forms.proofs.Grouping.{flat_grouped}
 use Rattle.forms.proofs.Growing.{growths_grouped}
-use Rattle.forms.proofs.SoundParts.{SoundParts, sound_parts}
+use Rattle.forms.proofs.SoundParts.{sound_parts}
 use Rattle.shop.specs.declared.refusal.Refusal.{Refusal}
 use Rattle.shop.specs.declared.refusal.Refusal.TheVariants.{Fault, Torn}
 use Rattle.shop.specs.Calls.{document}

@@ -1,5 +1,5 @@
 -- Whether there is room for one patch more.
-use Rattle.std.proofs.Common.{◌≡◌, ℕ, ◌+◌, ◌<◌, ◌≤◌, min, Bool, true, false, ◌&&◌, leb, List, length, Ok, Err, sym, refl, ap, ◌∙◌, subst, arith}
+use Rattle.std.proofs.Common.{◌≡◌, ℕ, ◌+◌, ◌<◌, ◌≤◌, min, Bool, true, false, ◌&&◌, leb, List, length, Ok, Err, refl, ap, arith}
 use Rattle.std.proofs.lemmas.Bool.{and_from, and_left, and_right, le-leb, lt-leb}
 use Rattle.kinds.specs.Theory.{Theory}
 use Rattle.kinds.specs.Bounded.{saturated, largest}
@@ -11,7 +11,7 @@ use Rattle.histories.specs.Flat.{flat}
 use Rattle.forms.specs.Form.{grouped, most_patches, most_changes}
 use Rattle.forms.proofs.Grouping.{flat_grouped}
 use Rattle.shop.specs.declared.refusal.Refusal.TheVariants.{Full, Overgrown}
-use Rattle.shop.specs.Calls.{room_for, or_refused}
+use Rattle.shop.specs.Calls.{room_for}
 
 module _ {P F : Type 0} (T : Theory P F) (row : List (Named P)) (p : Named (List P)) where
   abbrev few : Bool

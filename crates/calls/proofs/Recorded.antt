@@ -1,5 +1,5 @@
 -- The document that record makes, test by test.
-use Rattle.std.proofs.Common.{◌≡◌, ℕ, ◌+◌, ◌≤◌, Bool, true, false, ◌&&◌, ltb, leb, List, [], ◌∷◌, ◌++◌, length, Ok, Err, Result, sym, refl, ap, ◌∙◌, subst, arith}
+use Rattle.std.proofs.Common.{◌≡◌, ℕ, ◌+◌, ◌≤◌, Bool, true, false, ◌&&◌, ltb, leb, List, length, Ok, Err, Result, sym, refl, ap, ◌∙◌, subst, arith}
 use Rattle.std.proofs.lemmas.Bool.{leb-true}
 use Rattle.kinds.specs.Theory.{Theory}
 use Rattle.kinds.specs.Bounded.{roomy}
@@ -16,7 +16,6 @@ use Rattle.forms.specs.Form.{grouped, sound, most_patches, most_changes}
 use Rattle.shop.specs.declared.refusal.Refusal.{Refusal}
 use Rattle.shop.specs.declared.refusal.Refusal.TheVariants.{Fault, Full, Overgrown, Torn}
 use Rattle.shop.specs.declared.shop.Shop.{Shop}
-use Rattle.shop.specs.State.{at}
 use Rattle.shop.specs.Calls.{or_refused, sound_at, a_name_left, room_for, document}
 use Rattle.shop.specs.Held.{row_at, state_of}
 use Rattle.calls.specs.Run.{LeftInRun, new_document}

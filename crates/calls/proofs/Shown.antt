@@ -1,5 +1,5 @@
 -- What show answers, and what it leaves in the run.
-use Rattle.std.proofs.Common.{◌≡◌, ℕ, Bool, true, false, cond, ◌&&◌, List, length, replicate, Ok, Err, Result, sym, refl, ap, ◌∙◌, subst, arith}
+use Rattle.std.proofs.Common.{◌≡◌, ℕ, Bool, true, false, List, length, replicate, Ok, Err, Result, sym, refl, ap, ◌∙◌, subst}
 use Rattle.kinds.specs.declared.steps.AtStep.{AtStep}
 use Rattle.kinds.specs.Theory.{Theory}
 use Rattle.kinds.specs.Parts.{part}
@@ -9,7 +9,7 @@ use Rattle.histories.specs.History.{replay}
 use Rattle.forms.specs.Form.{sound}
 use Rattle.shop.specs.declared.refusal.Refusal.{Refusal}
 use Rattle.shop.specs.declared.refusal.Refusal.TheVariants.{Torn}
-use Rattle.shop.specs.State.{History, State, at}
+use Rattle.shop.specs.State.{State, at}
 use Rattle.shop.specs.Calls.{Memory, in_shop, enough, sound_at, document, show, or_refused}
 use Rattle.calls.specs.Run.{run_after, LeftInRun}
 

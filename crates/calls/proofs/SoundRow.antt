@@ -1,5 +1,5 @@
 -- The history of a repository, from its row in the memory of a shop.
-use Rattle.std.proofs.Common.{◌≡◌, ℕ, zero, suc, Bool, true, false, ◌&&◌, List, [], ◌∷◌, map, get_or, Some, Ok, Err, Result, sym, refl, ap, ◌∙◌, subst, arith}
+use Rattle.std.proofs.Common.{◌≡◌, ℕ, zero, suc, Bool, true, false, ◌&&◌, List, [], ◌∷◌, map, get_or, Some, Ok, Err, Result, sym, refl, ap, ◌∙◌, arith}
 use Rattle.std.proofs.lemmas.Bool.{and_parts}
 use Rattle.kinds.specs.Bounded.{roomy}
 use Rattle.kinds.specs.Theory.{Theory}
@@ -11,7 +11,7 @@ use Rattle.forms.specs.Form.{grouped, sound}
 use Rattle.shop.specs.declared.refusal.Refusal.{Refusal}
 use Rattle.shop.specs.declared.refusal.Refusal.TheVariants.{WrongRoom, NoName, Torn}
 use Rattle.shop.specs.declared.shop.Shop.{Shop}
-use Rattle.shop.specs.State.{State, at}
+use Rattle.shop.specs.State.{at}
 use Rattle.shop.specs.Calls.{or_refused, all_long, enough, sound_at}
 use Rattle.shop.specs.Held.{rows_of, row_at, state_of}
 

@@ -1,5 +1,5 @@
 -- Undo: the inverse of the patch is appended.
-use Rattle.std.proofs.Common.{◌≡◌, ℕ, ◌+◌, ◌<◌, Bool, true, false, cond, ltb, List, [], ◌∷◌, ◌++◌, map, length, drop, set, Ok, Err, Result, sym, refl, ap, ◌∙◌, subst, arith, length-append}
+use Rattle.std.proofs.Common.{◌≡◌, ℕ, ◌+◌, ◌<◌, true, cond, ltb, List, [], ◌∷◌, ◌++◌, map, length, drop, set, Ok, Err, Result, sym, refl, ap, ◌∙◌, subst, arith, length-append}
 use lib.ListN.{length-map}
 use Rattle.std.proofs.lemmas.List.{take_at, drop_at}
 use Rattle.std.proofs.lemmas.Bool.{le-leb}
@@ -10,7 +10,6 @@ use Rattle.kinds.specs.Sequences.{growths, inverses}
 use Rattle.kinds.proofs.Sequences.{inverses_length}
 use Rattle.histories.specs.declared.named.Named.{Named}
 use Rattle.histories.specs.Named.{under, named, patches}
-use Rattle.histories.proofs.Stops.{the_ok}
 use Rattle.histories.specs.Flat.{flat_of, flat}
 use Rattle.histories.proofs.Flattening.{named_inverses}
 use Rattle.forms.specs.declared.find.Place.{Place}

@@ -14,7 +14,7 @@ use Rattle.kinds.proofs.Stepwise.{answer_over_more, answer_more}
 use Rattle.rows.specs.Pass.{one_further, in_front, passing}
 use Rattle.rows.proofs.Taking.{lengths}
 use Rattle.histories.specs.declared.Stop.{Stop}
-use Rattle.histories.specs.declared.Stop.TheVariants.{By, TooFar as Far}
+use Rattle.histories.specs.declared.Stop.TheVariants.{TooFar as Far}
 use Rattle.histories.specs.declared.named.Named.{Named}
 use Rattle.histories.specs.Named.{under, named, patches}
 use Rattle.histories.specs.History.{stopped_at, commuted_at, passed}

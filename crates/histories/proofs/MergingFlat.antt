@@ -1,5 +1,5 @@
 -- A patch merged over a history, in flat rows.
-use Rattle.std.proofs.Common.{◌≡◌, ℕ, suc, ◌+◌, ◌-◌, ◌<◌, ◌≤◌, List, [], ◌∷◌, ◌++◌, map, length, get_or, take, drop, Ok, Err, Result, sym, refl, ap, ◌∙◌, subst, append_assoc, arith, length-append}
+use Rattle.std.proofs.Common.{◌≡◌, ℕ, ◌+◌, ◌-◌, ◌<◌, List, [], ◌∷◌, ◌++◌, map, length, get_or, take, drop, Ok, Err, Result, sym, refl, ap, ◌∙◌, subst, append_assoc, arith, length-append}
 use borrow.Rule.Slice.PartMut.{put_mid, post_of}
 use Rattle.std.proofs.lemmas.List.{take_at, drop_at, take-append-drop, length-take-le, length-drop, length-map, append-nil}
 use Rattle.std.proofs.lemmas.Slice.{between_to_end}
@@ -18,7 +18,7 @@ use Rattle.rows.proofs.Rests.{rest_is}
 use Rattle.histories.specs.declared.Stop.{Stop}
 use Rattle.histories.specs.declared.named.Named.{Named}
 use Rattle.histories.specs.Named.{under, named, patches}
-use Rattle.histories.specs.History.{stopped_at, commuted_at, merged}
+use Rattle.histories.specs.History.{stopped_at, merged}
 use Rattle.histories.specs.Flat.{flat_of, flat, OtherName, ToldApart, BeginsWith}
 use Rattle.histories.proofs.Flattening.{named_sequences, named_inverses, commuted_changes}
 use Rattle.histories.proofs.PassingBy.{put_is}

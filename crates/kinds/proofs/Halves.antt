@@ -1,5 +1,5 @@
 -- Some of the laws say something in both directions. With the others, one direction is enough.
-use Rattle.std.proofs.Common.{◌≡◌, sym, subst}
+use Rattle.std.proofs.Common.{◌≡◌, subst}
 use Rattle.kinds.specs.Theory.{Theory}
 use Rattle.kinds.specs.Laws.{Takes, Then, Commutes, Undo, SwapBack, SameEffect, Turning, FrontFirst, BackFirst, Three}
 

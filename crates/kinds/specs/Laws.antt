@@ -1,5 +1,5 @@
 -- The laws that every kind keeps.
-use Rattle.std.specs.Prelude.{◌≡◌, ℕ, ◌+◌, ◌<◌, ◌≤◌, true, false, ◌↔◌, List, length, replicate, Some, Ok}
+use Rattle.std.specs.Prelude.{◌≡◌, ℕ, ◌+◌, ◌≤◌, true, false, ◌↔◌, length, replicate, Some, Ok}
 use Rattle.kinds.specs.Theory.{Theory}
 
 -- The largest size of a history's document.

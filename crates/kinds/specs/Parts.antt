@@ -1,5 +1,5 @@
 -- A layer's answer, from the answer of the kind below it.
-use Rattle.std.specs.Prelude.{◌≡◌, Some, None, Ok, Err, Option, Result}
+use Rattle.std.specs.Prelude.{Some, None, Ok, Err, Option, Result}
 use Rattle.kinds.specs.declared.answers.Failure.{Failure}
 use Rattle.kinds.specs.declared.answers.Failure.TheVariants.{Length, Overfull, Fault}
 

@@ -1,5 +1,5 @@
 -- Where the options of a row begin.
-use Rattle.std.proofs.Common.{◌≡◌, ℕ, ◌+◌, ◌<◌, ◌≤◌, min, List, [], ◌∷◌, ◌++◌, length, get_or, take, drop, Ok, Err, sum_by, Result, sym, refl, ap, ◌∙◌, ⊎_elim, zero-add, arith}
+use Rattle.std.proofs.Common.{◌≡◌, ℕ, ◌+◌, ◌<◌, min, List, ◌++◌, length, get_or, take, Ok, Err, sum_by, Result, sym, refl, ap, ◌∙◌, ⊎_elim, zero-add, arith}
 use native.Mathlib.Nat.{min-eq_left, min-eq_right}
 use Rattle.std.proofs.lemmas.List.{take_more, take_all, drop_more, take_at}
 use Rattle.std.proofs.lemmas.List.Sums.{sum_by_push}

@@ -1,5 +1,5 @@
 -- Options in a row: where each begins, and what is left when one is taken off.
-use Rattle.std.specs.Prelude.{◌≡◌, ℕ, ◌+◌, ◌<◌, ◌≤◌, List, [], ◌∷◌, ◌++◌, get_or, take, drop, Ok, Err, sum_by, Result}
+use Rattle.std.specs.Prelude.{◌≡◌, ℕ, List, ◌++◌, take, drop, Ok, Err, sum_by, Result}
 use Rattle.kinds.specs.declared.answers.Clash.{Clash}
 use Rattle.kinds.specs.declared.steps.AtStep.{AtStep}
 use Rattle.rows.specs.Pass.{passing}

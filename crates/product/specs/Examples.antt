@@ -1,9 +1,8 @@
 -- Four worked examples on single patches, as consequences of the rules.
-use Rattle.std.specs.Prelude.{◌≡◌, ℕ, ℤ, pos, Some, None}
+use Rattle.std.specs.Prelude.{◌≡◌, ℕ, ℤ, pos, None}
 use Rattle.kinds.specs.Laws.{Commutes}
-use Rattle.lists.specs.declared.hunk.Lines.TheVariants.{the_data as Lines, Zero, One, Two}
+use Rattle.lists.specs.declared.hunk.Lines.TheVariants.{the_data as Lines, Zero, One}
 use Rattle.lines.specs.declared.rule.Rule.{Rule}
-use Rattle.modules.specs.declared.Module.{Module}
 use Rattle.pairs.specs.declared.Steps.TheVariants.{One as Only}
 use Rattle.sheets.specs.declared.SheetChange.TheVariants.{Inside}
 use Rattle.sides.specs.declared.Side.TheVariants.{Left, Right}

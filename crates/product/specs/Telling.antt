@@ -1,5 +1,5 @@
 -- A fault of a change, told as six numbers.
-use Rattle.std.specs.Prelude.{ℕ, ◌+◌, ◌*◌}
+use Rattle.std.specs.Prelude.{ℕ}
 use Rattle.lists.specs.declared.hunk.ListFault.TheVariants.{PastEnd, Differs}
 use Rattle.modules.specs.declared.Module.{Module}
 use Rattle.modules.specs.declared.ModuleFault.TheVariants.{NoModule, Inside}

@@ -1,8 +1,7 @@
 -- The test of the form of a history, and what it tells.
-use Rattle.std.proofs.Common.{◌≡◌, ℕ, ◌+◌, ◌<◌, ◌≤◌, Bool, true, false, cond, ◌&&◌, List, [], ◌∷◌, ◌++◌, length, Some, None, refl, ap, ⊎_elim, arith}
-use Rattle.std.proofs.lemmas.Bool.{and_from, or_parts, not_from_false, lt-ltb, le-leb}
+use Rattle.std.proofs.Common.{◌≡◌, ℕ, ◌+◌, ◌<◌, ◌≤◌, true, false, List, [], ◌∷◌, ◌++◌, length, refl, ⊎_elim, arith}
+use Rattle.std.proofs.lemmas.Bool.{and_from, lt-ltb, le-leb}
 use Rattle.kinds.specs.Theory.{Theory}
-use Rattle.kinds.specs.Sequences.{all_written}
 use Rattle.histories.specs.declared.named.Named.{Named}
 use Rattle.histories.specs.Named.{patches}
 use Rattle.histories.specs.History.{holds}

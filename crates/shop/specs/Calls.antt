@@ -1,5 +1,5 @@
 -- What each call answers, and the state that it leaves. The refusals stand in the order in which they are looked for.
-use Rattle.std.specs.Prelude.{ℕ, ◌+◌, Bool, true, false, cond, not, ◌&&◌, List, [], ◌∷◌, ◌++◌, length, Some, None, Ok, Err, Option, Result, ◌==◌, nat_le, nat_lt}
+use Rattle.std.specs.Prelude.{ℕ, ◌+◌, Bool, true, false, not, ◌&&◌, List, [], ◌∷◌, ◌++◌, length, Some, None, Ok, Err, Option, Result, ◌==◌, nat_le, nat_lt}
 use Rattle.kinds.specs.Theory.{Theory}
 use Rattle.kinds.specs.Bounded.{roomy}
 use Rattle.kinds.specs.Laws.{most}

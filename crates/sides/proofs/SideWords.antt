@@ -1,5 +1,5 @@
 -- One side's words are lent: what that says of the whole document.
-use Rattle.std.proofs.Common.{◌≡◌, ℕ, ◌+◌, ◌-◌, ◌<◌, true, List, [], ◌++◌, length, Result, sym, refl, ap, ◌∙◌, subst, arith}
+use Rattle.std.proofs.Common.{◌≡◌, ℕ, ◌-◌, true, List, [], ◌++◌, length, Result, sym, refl, ap, ◌∙◌, subst, arith}
 use native.Mathlib.Nat.{min-eq_left}
 use borrow.Rule.Slice.PartMut.{put_mid}
 use Rattle.std.specs.List.{between}
@@ -7,7 +7,7 @@ use Rattle.std.proofs.lemmas.List.{append-nil}
 use Rattle.std.proofs.lemmas.List.Edits.{length-between}
 use Rattle.kinds.specs.declared.answers.Failure.{Failure}
 use Rattle.kinds.specs.Theory.{Theory}
-use Rattle.kinds.specs.Bounded.{roomy, Applied, largest, saturated}
+use Rattle.kinds.specs.Bounded.{roomy, Applied, saturated}
 use Rattle.kinds.specs.Laws.{Lawful}
 use Rattle.kinds.specs.Parts.{failing}
 use Rattle.kinds.specs.Slots.{Around}

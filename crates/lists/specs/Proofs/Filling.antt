@@ -1,7 +1,7 @@
 -- The words of lists of lines.
 use Rattle.std.proofs.Common.{◌≡◌, ℕ, ◌+◌, ◌-◌, ◌*◌, ◌≤◌, List, [], ◌∷◌, ◌++◌, length, take, drop, sym, refl, ap, ◌∙◌, append_assoc, add-mul, one-mul, zero-mul, add-one, arith, length-append}
 use Rattle.std.specs.List.{flat_map}
-use Rattle.std.proofs.lemmas.List.{append-nil, length-replicate, take_at, drop_at, drop_all}
+use Rattle.std.proofs.lemmas.List.{length-replicate, take_at, drop_at}
 use Rattle.kinds.specs.Laws.{most}
 use Rattle.lines.specs.Line.{Form}
 use Rattle.lists.specs.Hunk.{filled_up}

@@ -1,15 +1,15 @@
 -- Sides keep the laws if both kinds do.
-use Rattle.std.proofs.Common.{◌≡◌, ℕ, ◌+◌, ◌≤◌, Bool, true, false, ◌&&◌, List, ◌++◌, length, replicate, Some, Ok, sym, refl, ap, ◌∙◌, subst, arith, length-append}
+use Rattle.std.proofs.Common.{◌≡◌, ◌+◌, ◌≤◌, true, false, ◌++◌, length, replicate, sym, refl, ap, ◌∙◌, subst, arith, length-append}
 use lib.ListN.{replicate-append-replicate}
 use Rattle.std.proofs.lemmas.Bool.{and_parts, and_from}
 use Rattle.kinds.specs.Theory.{Theory}
-use Rattle.kinds.specs.Laws.{Takes, Then, Commutes, Undo, SwapBack, Turning, FrontFirst, BackFirst, Growth, Reach, StaysWritten, HeldInWords, Lawful}
+use Rattle.kinds.specs.Laws.{Takes, Then, Commutes, Undo, SwapBack, Turning, BackFirst, Lawful}
 use Rattle.kinds.specs.Parts.{both, part}
 use Rattle.kinds.proofs.Joins.{append_apart}
 use Rattle.kinds.proofs.Parts.{pair_of, both_some, part_ok}
 use Rattle.kinds.proofs.Halves.{undo_from_forward, both_ways, three_from_front}
 use Rattle.sides.specs.declared.Side.TheVariants.{the_data as Side, Left, Right}
-use Rattle.sides.specs.Sides.{side_commute, side_apply, side_invert, sides}
+use Rattle.sides.specs.Sides.{side_invert, sides}
 
 module _ {P Q F G : Type 0} (L : Theory P F) (R : Theory Q G) (l : Lawful L) (r : Lawful R) where
   abbrev S : Theory (Side P Q) (Side F G)

@@ -1,4 +1,4 @@
-use Rattle.std.proofs.Common.{◌≡◌, sym, ap, ◌∙◌, arith, rules}
+use Rattle.std.proofs.Common.{sym, arith}
 use Rattle.calls.proofs.OneMore.{many_patches, many_changes, much_growth, room_left}
 use Rattle.calls.proofs.checks.room_for.Goals as goal
 

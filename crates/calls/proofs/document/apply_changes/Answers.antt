@@ -1,4 +1,4 @@
-use Rattle.std.proofs.Common.{Ok, Err, rules}
+use Rattle.std.proofs.Common.{Ok, Err}
 use Rattle.kinds.proofs.Bound.{lawful_of}
 use Rattle.calls.proofs.Documents.{applied_changes}
 use Rattle.calls.proofs.document.apply_changes.Goals as goal

@@ -1,4 +1,4 @@
-use Rattle.std.proofs.Common.{◌≡◌, Ok, Err, refl, rules}
+use Rattle.std.proofs.Common.{Ok, refl}
 use Rattle.kinds.proofs.Bound.{lawful_of}
 use Rattle.calls.proofs.Documents.{replayed_document}
 use Rattle.calls.proofs.document.document.Goals as goal

@@ -1,4 +1,4 @@
-use Rattle.std.proofs.Common.{◌∙◌, rules}
+use Rattle.std.proofs.Common.{◌∙◌}
 use Rattle.forms.specs.Form.{grouped}
 use Rattle.calls.proofs.SameNames.{none_held, first_held, first_lacked}
 use Rattle.calls.proofs.level.+all_held.Goals as goal

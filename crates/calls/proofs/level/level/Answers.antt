@@ -1,8 +1,6 @@
-use Rattle.std.proofs.Common.{rules}
 use Rattle.kinds.proofs.Bound.{lawful_of}
 use Rattle.std.proofs.lemmas.Result.{err_from_is_err_and}
 use Rattle.shop.proofs.Promising.{promise_kept}
-use Rattle.calls.specs.Level.{level}
 use Rattle.calls.proofs.Called.{exit_is}
 use Rattle.calls.proofs.SameNames.{no_first, no_second, both_there, is_level}
 use Rattle.calls.proofs.level.level.Goals as goal

@@ -1,6 +1,6 @@
-use Rattle.std.proofs.Common.{◌≡◌, length, replicate, Some, sym, refl, ap, ◌∙◌, subst, rules}
+use Rattle.std.proofs.Common.{length, replicate, Some, refl, ap, ◌∙◌}
 use Rattle.shop.specs.Held.{rooms, rows_of, state_of}
-use Rattle.shop.specs.Reached.{Record, called, Reached}
+use Rattle.shop.specs.Reached.{Record, called}
 use Rattle.calls.proofs.SoundRow.{run_roomy}
 use Rattle.calls.proofs.Appended.{record_done, record_refused}
 use Rattle.calls.proofs.record.record.Goals as goal

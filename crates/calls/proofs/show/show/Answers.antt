@@ -1,4 +1,4 @@
-use Rattle.std.proofs.Common.{◌≡◌, length, replicate, Some, Ok, Err, sym, refl, ap, ◌∙◌, rules}
+use Rattle.std.proofs.Common.{length, replicate, Some, Ok, Err, sym, refl, ap, ◌∙◌}
 use Rattle.forms.specs.Form.{grouped}
 use Rattle.shop.specs.Held.{rooms, state_of}
 use Rattle.calls.proofs.SoundRow.{held_at, run_roomy, not_refused}

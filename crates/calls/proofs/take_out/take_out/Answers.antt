@@ -1,4 +1,4 @@
-use Rattle.std.proofs.Common.{Ok, Err, refl, rules}
+use Rattle.std.proofs.Common.{Ok, Err, refl}
 use Rattle.std.proofs.lemmas.Result.{err_from_is_err_and}
 use Rattle.calls.proofs.InWork.{torn, not_there, copy_within, passed_in_work}
 use Rattle.calls.proofs.take_out.take_out.Goals as goal

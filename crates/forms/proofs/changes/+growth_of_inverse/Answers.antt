@@ -1,4 +1,3 @@
-use Rattle.std.proofs.Common.{rules}
 use Rattle.forms.proofs.Growing.{none_grown_back, grown_back}
 use Rattle.forms.proofs.changes.+growth_of_inverse.Goals as goal
 

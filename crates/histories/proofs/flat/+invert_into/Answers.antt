@@ -1,4 +1,4 @@
-use Rattle.std.proofs.Common.{◌≡◌, ap, ◌∙◌, arith, rules}
+use Rattle.std.proofs.Common.{ap, ◌∙◌}
 use Rattle.histories.proofs.Leading.{none_inverted, one_inverted}
 use Rattle.histories.proofs.flat.+invert_into.Goals as goal
 

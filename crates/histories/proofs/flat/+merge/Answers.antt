@@ -1,4 +1,4 @@
-use Rattle.std.proofs.Common.{◌≡◌, Ok, Err, refl, rules}
+use Rattle.std.proofs.Common.{Ok, Err, refl}
 use Rattle.histories.proofs.MergingFlat.{over_none, no_room, stopped_over, goes_on}
 use Rattle.histories.proofs.flat.+merge.Goals as goal
 

@@ -1,4 +1,3 @@
-use Rattle.std.proofs.Common.{rules}
 use Rattle.histories.proofs.PassingBy.{over_none, stopped_first, over_next}
 use Rattle.histories.proofs.flat.+pass_rest.Goals as goal
 

@@ -1,4 +1,4 @@
-use Rattle.std.proofs.Common.{Ok, Err, rules}
+use Rattle.std.proofs.Common.{Ok, Err}
 use Rattle.histories.proofs.Leading.{too_short, merged_one}
 use Rattle.histories.proofs.flat.merge_one.Goals as goal
 

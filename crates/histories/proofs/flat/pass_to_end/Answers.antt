@@ -1,4 +1,4 @@
-use Rattle.std.proofs.Common.{◌≡◌, [], Ok, Err, sym, refl, ap, rules}
+use Rattle.std.proofs.Common.{[], Ok, sym, refl, ap}
 use Rattle.std.proofs.lemmas.Result.{err_from_is_err_and}
 use Rattle.histories.proofs.PassingBy.{at_end, past_end}
 use Rattle.histories.proofs.flat.pass_to_end.Goals as goal

@@ -1,4 +1,4 @@
-use Rattle.std.proofs.Common.{◌≡◌, ◌^◌, ◌<◌, sym, ap, ◌∙◌, subst, arith}
+use Rattle.std.proofs.Common.{ap, ◌∙◌, arith}
 use native.Mathlib.Nat.{min-eq_left}
 use Rattle.options.specs.declared.parts.Part.{Part}
 use Rattle.options.proofs.Starts.{start_next, start_end}

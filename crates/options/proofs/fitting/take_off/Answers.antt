@@ -1,8 +1,8 @@
-use Rattle.std.proofs.Common.{◌≡◌, ◌<◌, List, length, take, Ok, Err, vec_items, vec_len, sym, refl, ap, ◌∙◌, subst, arith}
+use Rattle.std.proofs.Common.{◌≡◌, ◌<◌, List, length, take, Ok, Err, vec_items, vec_len, refl, ap, ◌∙◌, subst, arith}
 use Rattle.std.proofs.lemmas.List.{take_at}
 use Rattle.rows.specs.TakeOut.{TakenOut}
 use Rattle.product.specs.Controller.{Change, controller}
-use Rattle.options.specs.Fitting.{start_of, size_of, TakenOff}
+use Rattle.options.specs.Fitting.{start_of}
 use Rattle.options.proofs.Starts.{size_at, went_off, stayed_on}
 use Rattle.options.proofs.fitting.take_off.Goals as goal
 

@@ -1,4 +1,3 @@
-use Rattle.std.proofs.Common.{rules}
 use Rattle.rows.proofs.Passing.{none_behind, stopped_front, next_front, whole, within}
 use Rattle.rows.proofs.pass.+pass_over.Goals as goal
 

@@ -1,4 +1,3 @@
-use Rattle.std.proofs.Common.{◌≡◌, subst, arith, rules}
 use Rattle.std.proofs.lemmas.List.{take_all}
 use Rattle.std.proofs.lemmas.Result.{err_from_is_err_and}
 use Rattle.kinds.proofs.Bound.{lawful_of}

@@ -1,4 +1,3 @@
-use Rattle.std.proofs.Common.{rules}
 use Rattle.std.proofs.lemmas.Result.{err_from_is_err_and}
 use Rattle.rows.proofs.Taking.{nothing_there, stopped_there, taken_there}
 use Rattle.rows.proofs.take_out.take_out.Goals as goal

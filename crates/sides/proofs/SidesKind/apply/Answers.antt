@@ -1,5 +1,5 @@
-use Rattle.std.proofs.Common.{◌≡◌, true, length, sym, subst, rules}
-use Rattle.kinds.specs.Bounded.{roomy, Applied}
+use Rattle.std.proofs.Common.{◌≡◌, true, length, rules}
+use Rattle.kinds.specs.Bounded.{roomy}
 use Rattle.kinds.proofs.Bound.{lawful_of}
 use Rattle.sides.specs.Sides.{sides}
 use Rattle.sides.proofs.SideWords.{left_applied, right_applied, left_others, right_others}
