@@ -11,9 +11,9 @@ use Rattle.tables.specs.declared.Cell.{Cell}
 use Rattle.tables.specs.declared.CellChange.{CellChange}
 use Rattle.tables.specs.declared.CellFault.TheVariants.{Differs}
 use Rattle.tables.specs.Table.{table, in_table, place, in_range, word, holds}
-use Rattle.tables.specs.Takes.{Changed, takes, held_parts}
-use Rattle.tables.specs.ValuesLemmas.{word_apart}
-use Rattle.tables.specs.Words.{still_fits}
+use Rattle.tables.specs.Proofs.Takes.{Changed, takes, held_parts}
+use Rattle.tables.specs.Proofs.Values.{word_apart}
+use Rattle.tables.specs.Proofs.Words.{still_fits}
 
 -- what `Cell::place` tells where it tells a place
 pub found : (c : Cell) (k : ℕ) → Some k ≡ cond (in_table c) (Some (place c)) None → (in_table c ≡ true) × (k ≡ place c)

@@ -1,5 +1,2 @@
 pub mod Table
-pub mod Changes
-pub mod Takes
-pub mod ValuesLemmas
-pub mod Words
+pub mod Proofs

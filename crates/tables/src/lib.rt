@@ -4,7 +4,7 @@
 ghost use Rattle.std.specs.Prelude.{◌≡◌, ℕ, true, false, ℤ, is_ok, if◌then◌else◌, Some, None, ◌≢◌, slice_index};
 ghost use Rattle.kinds.specs.Bounded.{Applied};
 ghost use Rattle.tables.specs.Table.{in_table, place as place_of, in_range, word as word_of, Read, table};
-ghost use Rattle.tables.specs.Changes.{lawful};
+ghost use Rattle.tables.specs.Proofs.Changes.{lawful};
 
 use kinds::answers::{Clash, Failure};
 use kinds::counts::roomy;

@@ -3,7 +3,7 @@ use Rattle.std.proofs.lemmas.List.{get_or-set_other}
 use Rattle.std.proofs.lemmas.Bool.{true≢false}
 use Rattle.tables.specs.Table.{place, word}
 use Rattle.tables.proofs.Applied.{found, long, stored, applied, faulted}
-use Rattle.tables.specs.ValuesLemmas.{in_range_from_fits}
+use Rattle.tables.specs.Proofs.Values.{in_range_from_fits}
 use Rattle.tables.proofs.TablesKind.apply.Goals as goal
 
 pub returns-then-run-place : goal.returns-then-run-place

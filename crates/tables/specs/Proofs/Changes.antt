@@ -10,8 +10,8 @@ use Rattle.kinds.proofs.Parts.{pair_of}
 use Rattle.tables.specs.declared.Cell.{Cell}
 use Rattle.tables.specs.declared.CellChange.{CellChange}
 use Rattle.tables.specs.Table.{table, in_table, place, same_cell, change_invert}
-use Rattle.tables.specs.Takes.{Changed, changed, takes, written_parts}
-use Rattle.tables.specs.Words.{held_in_words}
+use Rattle.tables.specs.Proofs.Takes.{Changed, changed, takes, written_parts}
+use Rattle.tables.specs.Proofs.Words.{held_in_words}
 
 -- the inverse puts back what was there
 takes_back : (p : CellChange) (d e : List ℤ) → Changed p d e → Changed (change_invert p) e d

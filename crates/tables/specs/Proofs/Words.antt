@@ -8,8 +8,8 @@ use Rattle.std.proofs.lemmas.Bool.{and_parts, eqb-true}
 use Rattle.kinds.specs.Laws.{HeldInWords}
 use Rattle.tables.specs.declared.CellChange.{CellChange}
 use Rattle.tables.specs.Table.{table, in_range, word, zeros, place}
-use Rattle.tables.specs.Takes.{Changed, changed, written_parts}
-use Rattle.tables.specs.ValuesLemmas.{same_from_test, word_apart}
+use Rattle.tables.specs.Proofs.Takes.{Changed, changed, written_parts}
+use Rattle.tables.specs.Proofs.Values.{same_from_test, word_apart}
 
 all_zero : (n : ℕ) → All (λ v. in_range v ≡ true) (replicate n (pos 0))
 all_zero zero = tt

@@ -5,7 +5,7 @@ use Rattle.std.proofs.lemmas.Bool.{and_parts, and_from, cases_Bool, lt-ltb, ltb-
 use Rattle.kinds.specs.Laws.{Takes}
 use Rattle.tables.specs.declared.CellChange.{CellChange}
 use Rattle.tables.specs.Table.{table, in_table, place, holds, in_range}
-use Rattle.tables.specs.ValuesLemmas.{same_from_test, same_tests}
+use Rattle.tables.specs.Proofs.Values.{same_from_test, same_tests}
 
 -- the change p takes the table d to the table e
 pub record Changed (p : CellChange) (d e : List ℤ) : Type 0 where
