@@ -1,5 +1,4 @@
 // Changes of any kind, each under a name: a kind again.
-ghost use Rattle.kinds.proofs.Bound.{lawful_by};
 ghost use Rattle.histories.specs.Proofs.NamedLaws.{named_lawful};
 ghost use Rattle.histories.specs.Named.{named as the_named};
 
@@ -25,23 +24,23 @@ impl<K: Kind> Kind for Labelled<K> {
 
     ghost theory = { the_named K.Kind.theory };
 
-    ghost undo = { (named_lawful K.Kind.theory (lawful_by K.undo K.swap_back K.same_effect K.turning K.three K.growth K.reach K.stays_written K.held_in_words)).undo };
+    ghost undo = { (named_lawful K.Kind.theory K.lawful).undo };
 
-    ghost swap_back = { (named_lawful K.Kind.theory (lawful_by K.undo K.swap_back K.same_effect K.turning K.three K.growth K.reach K.stays_written K.held_in_words)).swap_back };
+    ghost swap_back = { (named_lawful K.Kind.theory K.lawful).swap_back };
 
-    ghost same_effect = { (named_lawful K.Kind.theory (lawful_by K.undo K.swap_back K.same_effect K.turning K.three K.growth K.reach K.stays_written K.held_in_words)).same_effect };
+    ghost same_effect = { (named_lawful K.Kind.theory K.lawful).same_effect };
 
-    ghost turning = { (named_lawful K.Kind.theory (lawful_by K.undo K.swap_back K.same_effect K.turning K.three K.growth K.reach K.stays_written K.held_in_words)).turning };
+    ghost turning = { (named_lawful K.Kind.theory K.lawful).turning };
 
-    ghost three = { (named_lawful K.Kind.theory (lawful_by K.undo K.swap_back K.same_effect K.turning K.three K.growth K.reach K.stays_written K.held_in_words)).three };
+    ghost three = { (named_lawful K.Kind.theory K.lawful).three };
 
-    ghost growth = { (named_lawful K.Kind.theory (lawful_by K.undo K.swap_back K.same_effect K.turning K.three K.growth K.reach K.stays_written K.held_in_words)).grows };
+    ghost growth = { (named_lawful K.Kind.theory K.lawful).grows };
 
-    ghost reach = { (named_lawful K.Kind.theory (lawful_by K.undo K.swap_back K.same_effect K.turning K.three K.growth K.reach K.stays_written K.held_in_words)).reach };
+    ghost reach = { (named_lawful K.Kind.theory K.lawful).reach };
 
-    ghost stays_written = { (named_lawful K.Kind.theory (lawful_by K.undo K.swap_back K.same_effect K.turning K.three K.growth K.reach K.stays_written K.held_in_words)).stays_written };
+    ghost stays_written = { (named_lawful K.Kind.theory K.lawful).stays_written };
 
-    ghost held_in_words = { (named_lawful K.Kind.theory (lawful_by K.undo K.swap_back K.same_effect K.turning K.three K.growth K.reach K.stays_written K.held_in_words)).held_in_words };
+    ghost held_in_words = { (named_lawful K.Kind.theory K.lawful).held_in_words };
 
     fn words() -> u32 {
         K::words()

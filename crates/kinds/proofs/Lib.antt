@@ -5,7 +5,6 @@ pub mod Grids
 pub mod Sequences
 pub mod Stepwise
 pub mod Restricted
-pub mod Bound
 pub mod Joins
 pub mod Lending
 pub mod Cases

@@ -1,6 +1,6 @@
 -- Lists of slots: one slot read and set, and their words.
 use Rattle.std.proofs.Common.{◌≡◌, ℕ, zero, suc, ◌+◌, ◌*◌, ◌<◌, ◌≤◌, Bool, true, ◌&&◌, eqb, ◌↔◌, List, [], ◌∷◌, ◌++◌, length, set, replicate, Some, sum_by, sym, refl, ap, ◌∙◌, append_assoc, suc-mul, zero-mul, arith, length-append}
-use Rattle.std.specs.List.{AllByRecursion as All, slice_get, flat_map}
+use Rattle.std.specs.List.{AllByRecursion, slice_get, flat_map}
 use Rattle.std.proofs.lemmas.List.{replicate-append-replicate}
 use Rattle.std.proofs.lemmas.List.Sums.{sum_by-cons}
 use Rattle.std.proofs.lemmas.Bool.{and_parts, and_from, eqb-true, eq-eqb}
@@ -65,11 +65,11 @@ module _ {X : Type 0} where
   slot_size f (here {x} {y} {xs}) = rw (sum_by-cons f x xs) (omega arith)
   slot_size f (next {z = z} {xs = xs} s) = let h = slot_size f s in rw (sum_by-cons f z xs) (omega arith)
 
-  pub slot_of_all : (P : X → Type 0) {x y : X} {n : ℕ} {d e : List X} → Step x y n d e → All P d → P x
+  pub slot_of_all : (P : X → Type 0) {x y : X} {n : ℕ} {d e : List X} → Step x y n d e → AllByRecursion P d → P x
   slot_of_all P here a = a.0
   slot_of_all P (next s) a = slot_of_all P s a.1
 
-  pub all_after : (P : X → Type 0) {x y : X} {n : ℕ} {d e : List X} → Step x y n d e → P y → All P d → All P e
+  pub all_after : (P : X → Type 0) {x y : X} {n : ℕ} {d e : List X} → Step x y n d e → P y → AllByRecursion P d → AllByRecursion P e
   all_after P here h a = (h, a.1)
   all_after P (next s) h a = (a.0, all_after P s h a.1)
 
@@ -84,7 +84,7 @@ module _ {X : Type 0} {fresh : X} {blank : X → Bool} {size : X → ℕ} {fits 
   one_more : (n : ℕ) → w + n * w ≡ suc n * w
   one_more n = omega (arith, suc-mul n w)
 
-  all_fresh : (n : ℕ) → (length (replicate n fresh) ≡ n) × All fits (replicate n fresh)
+  all_fresh : (n : ℕ) → (length (replicate n fresh) ≡ n) × AllByRecursion fits (replicate n fresh)
   all_fresh zero = (refl, tt)
   all_fresh (suc n) = (ap suc (all_fresh n).0, (h.starts.0, (all_fresh n).1))
 
@@ -109,11 +109,11 @@ module _ {X : Type 0} {fresh : X} {blank : X → Bool} {size : X → ℕ} {fits 
       let b = from_every d s.1 in
       λ i. a i ∷ b i
 
-  all_filled : (d : List X) → All fits d → length (flat_map encode d) ≡ length d * w
+  all_filled : (d : List X) → AllByRecursion fits d → length (flat_map encode d) ≡ length d * w
   all_filled [] a = sym (zero-mul w)
   all_filled (x ∷ d) a = length-append (encode x) (flat_map encode d) ∙ omega (arith, h.filled x a.0, all_filled d a.1, one_more (length d))
 
-  all_apart : (d e : List X) → length d ≡ length e → All fits d → All fits e → flat_map encode d ≡ flat_map encode e → d ≡ e
+  all_apart : (d e : List X) → length d ≡ length e → AllByRecursion fits d → AllByRecursion fits e → flat_map encode d ≡ flat_map encode e → d ≡ e
   all_apart [] [] l a b k = refl
   all_apart [] (y ∷ e) l a b k = absurd (omega arith)
   all_apart (x ∷ d) [] l a b k = absurd (omega arith)
@@ -124,7 +124,7 @@ module _ {X : Type 0} {fresh : X} {blank : X → Bool} {size : X → ℕ} {fits 
       λ i. u i ∷ v i
 
   -- n slots hold as one does
-  pub slots_hold : (n : ℕ) → Holds (replicate n fresh) (λ d. eqb (length d) n && every blank d) (sum_by size) (λ d. (length d ≡ n) × All fits d) (n * w) (flat_map encode)
+  pub slots_hold : (n : ℕ) → Holds (replicate n fresh) (λ d. eqb (length d) n && every blank d) (sum_by size) (λ d. (length d ≡ n) × AllByRecursion fits d) (n * w) (flat_map encode)
   slots_hold n = record {
     starts = (all_fresh n, no_size n, all_zeros n);
     tells_fresh = λ d. (
@@ -137,7 +137,7 @@ module _ {X : Type 0} {fresh : X} {blank : X → Bool} {size : X → ℕ} {fits 
   }
 
   -- A slot's words stand in those of the list, with so many before them, and setting the slot changes no others.
-  pub slot_words : (x : X) (n : ℕ) (d : List X) → slice_get d n ≡ Some x → All fits d
+  pub slot_words : (x : X) (n : ℕ) (d : List X) → slice_get d n ≡ Some x → AllByRecursion fits d
       → (a : List ℕ) × (b : List ℕ) × (length a ≡ n * w) × (flat_map encode d ≡ a ++ (encode x ++ b)) × ((y : X) → flat_map encode (set d n y) ≡ a ++ (encode y ++ b))
   slot_words x n [] o f = none_some o
   slot_words x zero (z ∷ d) o f = ([], flat_map encode d, sym (zero-mul w), ap (λ v. encode v ++ flat_map encode d) (some_one z x o), λ y. refl)

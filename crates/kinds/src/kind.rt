@@ -1,7 +1,7 @@
 ghost use Rattle.std.specs.Prelude.{◌≡◌};
 ghost use Rattle.kinds.specs.Theory.{Theory};
 ghost use Rattle.kinds.specs.Bounded.{answer, Applied, saturated};
-ghost use Rattle.kinds.specs.Laws.{Undo, SwapBack, SameEffect, Turning, Three, Growth, Reach, StaysWritten, HeldInWords};
+ghost use Rattle.kinds.specs.Laws.{Undo, SwapBack, SameEffect, Turning, Three, Growth, Reach, StaysWritten, HeldInWords, Lawful, lawful_by};
 
 use crate::answers::{Clash, Failure};
 
@@ -54,4 +54,7 @@ pub trait Kind {
     ghost stays_written: { StaysWritten theory };
 
     ghost held_in_words: { HeldInWords theory };
+
+    // All laws in one record. It follows from those above, and no impl writes it.
+    ghost lawful: { Lawful theory } = { lawful_by undo swap_back same_effect turning three growth reach stays_written held_in_words };
 }

@@ -1,6 +1,6 @@
 -- Modules: a document is a list of documents of the kind below, and a patch changes one of them.
 use Rattle.std.specs.Prelude.{◌≡◌, ◌*◌, Bool, false, cond, ◌&&◌, List, length, replicate, Some, None, Err, sum_by, Option, Result, ◌==◌, nat_lt, slice_set}
-use Rattle.std.specs.List.{AllByRecursion as All, slice_get, flat_map}
+use Rattle.std.specs.List.{AllByRecursion, slice_get, flat_map}
 use Rattle.kinds.specs.Theory.{Theory}
 use Rattle.kinds.specs.Parts.{both, part}
 use Rattle.kinds.specs.Slots.{every, passing}
@@ -46,7 +46,7 @@ module _ {P F : Type 0} (T : Theory P F) where
     written = λ c. nat_lt c.«module».0 3 && T.written c.patch;
     far = λ c d. cond (same_module c.«module» d.«module») (T.far c.patch d.patch) false;
     full = λ c d. passing (T.full c.patch) (slice_get d c.«module».0);
-    fits = λ d. (length d ≡ 3) × All T.fits d;
+    fits = λ d. (length d ≡ 3) × AllByRecursion T.fits d;
     width = 3 * T.width;
     encode = flat_map T.encode;
   }

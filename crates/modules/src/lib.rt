@@ -6,7 +6,6 @@ ghost use Rattle.kinds.specs.Bounded.{Applied};
 ghost use Rattle.kinds.specs.Parts.{failing};
 ghost use Rattle.kinds.specs.Slots.{Around};
 ghost use Rattle.modules.specs.declared.ModuleFault.TheVariants.{Inside as inside};
-ghost use Rattle.kinds.proofs.Bound.{lawful_by};
 ghost use Rattle.modules.specs.Proofs.ModuleLaws.{lawful};
 ghost use Rattle.modules.specs.Modules.{modules as the_modules};
 
@@ -57,23 +56,23 @@ impl<K: Kind> Kind for Modules<K> {
 
     ghost theory = { the_modules K.Kind.theory };
 
-    ghost undo = { (lawful K.Kind.theory (lawful_by K.undo K.swap_back K.same_effect K.turning K.three K.growth K.reach K.stays_written K.held_in_words)).undo };
+    ghost undo = { (lawful K.Kind.theory K.lawful).undo };
 
-    ghost swap_back = { (lawful K.Kind.theory (lawful_by K.undo K.swap_back K.same_effect K.turning K.three K.growth K.reach K.stays_written K.held_in_words)).swap_back };
+    ghost swap_back = { (lawful K.Kind.theory K.lawful).swap_back };
 
-    ghost same_effect = { (lawful K.Kind.theory (lawful_by K.undo K.swap_back K.same_effect K.turning K.three K.growth K.reach K.stays_written K.held_in_words)).same_effect };
+    ghost same_effect = { (lawful K.Kind.theory K.lawful).same_effect };
 
-    ghost turning = { (lawful K.Kind.theory (lawful_by K.undo K.swap_back K.same_effect K.turning K.three K.growth K.reach K.stays_written K.held_in_words)).turning };
+    ghost turning = { (lawful K.Kind.theory K.lawful).turning };
 
-    ghost three = { (lawful K.Kind.theory (lawful_by K.undo K.swap_back K.same_effect K.turning K.three K.growth K.reach K.stays_written K.held_in_words)).three };
+    ghost three = { (lawful K.Kind.theory K.lawful).three };
 
-    ghost growth = { (lawful K.Kind.theory (lawful_by K.undo K.swap_back K.same_effect K.turning K.three K.growth K.reach K.stays_written K.held_in_words)).grows };
+    ghost growth = { (lawful K.Kind.theory K.lawful).grows };
 
-    ghost reach = { (lawful K.Kind.theory (lawful_by K.undo K.swap_back K.same_effect K.turning K.three K.growth K.reach K.stays_written K.held_in_words)).reach };
+    ghost reach = { (lawful K.Kind.theory K.lawful).reach };
 
-    ghost stays_written = { (lawful K.Kind.theory (lawful_by K.undo K.swap_back K.same_effect K.turning K.three K.growth K.reach K.stays_written K.held_in_words)).stays_written };
+    ghost stays_written = { (lawful K.Kind.theory K.lawful).stays_written };
 
-    ghost held_in_words = { (lawful K.Kind.theory (lawful_by K.undo K.swap_back K.same_effect K.turning K.three K.growth K.reach K.stays_written K.held_in_words)).held_in_words };
+    ghost held_in_words = { (lawful K.Kind.theory K.lawful).held_in_words };
 
     fn words() -> u32 {
         total(COUNT as u32, K::words(), 0)

@@ -3,7 +3,7 @@ use Rattle.std.proofs.Common.{◌≡◌, ℕ, ◌+◌, ◌<◌, Bool, true, fals
 use Rattle.std.proofs.ByRecursion.{all_kept_by}
 use Rattle.std.proofs.lemmas.List.{map-append, length-map}
 use Rattle.std.proofs.lemmas.Bool.{and_parts, and_from, or_parts, or_from, not-true, not_from_false}
-use Rattle.std.specs.List.{AllByRecursion as All}
+use Rattle.std.specs.List.{AllByRecursion}
 use Rattle.kinds.specs.Theory.{Theory}
 use Rattle.kinds.specs.Bounded.{answer}
 use Rattle.kinds.specs.Parts.{part}
@@ -102,7 +102,7 @@ module _ {P : Type 0} where
 
   -- each patch has changes
   abbrev pub Filled : List (Named (List P)) → Type 0
-  Filled = All (λ p. 0 < length p.changes)
+  Filled = AllByRecursion (λ p. 0 < length p.changes)
 
   pub filled : (h : List (Named (List P))) → ToldApart h → Filled h
   filled [] t = tt

@@ -4,7 +4,6 @@
 ghost use Rattle.std.specs.Prelude.{◌≡◌};
 ghost use Rattle.kinds.specs.Parts.{part};
 ghost use Rattle.kinds.specs.Sequences.{answer_over};
-ghost use Rattle.kinds.proofs.Bound.{lawful_by};
 ghost use Rattle.pairs.specs.Proofs.PairLaws.{lawful};
 ghost use Rattle.pairs.specs.Pairs.{listed, pairs as the_pairs};
 
@@ -48,23 +47,23 @@ impl<K: Kind> Kind for Pairs<K> {
 
     ghost theory = { the_pairs K.Kind.theory };
 
-    ghost undo = { (lawful K.theory (lawful_by K.undo K.swap_back K.same_effect K.turning K.three K.growth K.reach K.stays_written K.held_in_words)).undo };
+    ghost undo = { (lawful K.theory K.lawful).undo };
 
-    ghost swap_back = { (lawful K.theory (lawful_by K.undo K.swap_back K.same_effect K.turning K.three K.growth K.reach K.stays_written K.held_in_words)).swap_back };
+    ghost swap_back = { (lawful K.theory K.lawful).swap_back };
 
-    ghost same_effect = { (lawful K.theory (lawful_by K.undo K.swap_back K.same_effect K.turning K.three K.growth K.reach K.stays_written K.held_in_words)).same_effect };
+    ghost same_effect = { (lawful K.theory K.lawful).same_effect };
 
-    ghost turning = { (lawful K.theory (lawful_by K.undo K.swap_back K.same_effect K.turning K.three K.growth K.reach K.stays_written K.held_in_words)).turning };
+    ghost turning = { (lawful K.theory K.lawful).turning };
 
-    ghost three = { (lawful K.theory (lawful_by K.undo K.swap_back K.same_effect K.turning K.three K.growth K.reach K.stays_written K.held_in_words)).three };
+    ghost three = { (lawful K.theory K.lawful).three };
 
-    ghost growth = { (lawful K.theory (lawful_by K.undo K.swap_back K.same_effect K.turning K.three K.growth K.reach K.stays_written K.held_in_words)).grows };
+    ghost growth = { (lawful K.theory K.lawful).grows };
 
-    ghost reach = { (lawful K.theory (lawful_by K.undo K.swap_back K.same_effect K.turning K.three K.growth K.reach K.stays_written K.held_in_words)).reach };
+    ghost reach = { (lawful K.theory K.lawful).reach };
 
-    ghost stays_written = { (lawful K.theory (lawful_by K.undo K.swap_back K.same_effect K.turning K.three K.growth K.reach K.stays_written K.held_in_words)).stays_written };
+    ghost stays_written = { (lawful K.theory K.lawful).stays_written };
 
-    ghost held_in_words = { (lawful K.theory (lawful_by K.undo K.swap_back K.same_effect K.turning K.three K.growth K.reach K.stays_written K.held_in_words)).held_in_words };
+    ghost held_in_words = { (lawful K.theory K.lawful).held_in_words };
 
     fn words() -> u32 {
         K::words()

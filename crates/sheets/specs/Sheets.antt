@@ -1,7 +1,7 @@
 -- Sheets: a document is a list of documents of the kind below, each there or not, and a change makes, removes or moves one, or changes it inside.
 use Rattle.std.specs.Prelude.{◌≡◌, ℕ, ◌+◌, ◌*◌, ◌<◌, Bool, true, false, cond, not, ◌&&◌, ◌||◌, List, ◌∷◌, length, drop, set, replicate, Some, None, Ok, Err, sum_by, Option, Result, ◌==◌, nat_lt, slice_index, slice_set}
 use Rattle.std.proofs.Math.Seq.{paste}
-use Rattle.std.specs.List.{AllByRecursion as All, slice_get, flat_map}
+use Rattle.std.specs.List.{AllByRecursion, slice_get, flat_map}
 use Rattle.kinds.specs.declared.answers.Failure.{Failure}
 use Rattle.kinds.specs.Theory.{Theory}
 use Rattle.kinds.specs.Bounded.{Applied, done_or_fault, largest}
@@ -138,7 +138,7 @@ module _ {P F : Type 0} (T : Theory P F) where
     written = sheet_written;
     far = sheet_far;
     full = sheet_full;
-    fits = λ d. (length d ≡ 4) × All sheet_fits d;
+    fits = λ d. (length d ≡ 4) × AllByRecursion sheet_fits d;
     width = 4 * (1 + T.width);
     encode = flat_map sheet_encode;
   }

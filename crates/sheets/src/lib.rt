@@ -7,7 +7,6 @@ ghost use Rattle.kinds.specs.Parts.{failing};
 ghost use Rattle.kinds.specs.Slots.{every};
 ghost use Rattle.sheets.specs.declared.SheetFault.TheVariants.{Inside as in_sheet};
 ghost use Rattle.sheets.specs.declared.SheetChange.TheVariants.{Create as creating, Remove as removing, Move as moving, Inside as changing};
-ghost use Rattle.kinds.proofs.Bound.{lawful_by};
 ghost use Rattle.sheets.specs.Proofs.SheetLaws.{lawful};
 ghost use Rattle.sheets.specs.Sheets.{touches as is_of, share as are_of_one, there_at, absent_at, moved_words, FourSheets, Worked, Others, sheets as the_sheets};
 
@@ -216,23 +215,23 @@ impl<K: Kind> Kind for Sheets<K> {
 
     ghost theory = { the_sheets K.Kind.theory };
 
-    ghost undo = { (lawful K.Kind.theory (lawful_by K.undo K.swap_back K.same_effect K.turning K.three K.growth K.reach K.stays_written K.held_in_words)).undo };
+    ghost undo = { (lawful K.Kind.theory K.lawful).undo };
 
-    ghost swap_back = { (lawful K.Kind.theory (lawful_by K.undo K.swap_back K.same_effect K.turning K.three K.growth K.reach K.stays_written K.held_in_words)).swap_back };
+    ghost swap_back = { (lawful K.Kind.theory K.lawful).swap_back };
 
-    ghost same_effect = { (lawful K.Kind.theory (lawful_by K.undo K.swap_back K.same_effect K.turning K.three K.growth K.reach K.stays_written K.held_in_words)).same_effect };
+    ghost same_effect = { (lawful K.Kind.theory K.lawful).same_effect };
 
-    ghost turning = { (lawful K.Kind.theory (lawful_by K.undo K.swap_back K.same_effect K.turning K.three K.growth K.reach K.stays_written K.held_in_words)).turning };
+    ghost turning = { (lawful K.Kind.theory K.lawful).turning };
 
-    ghost three = { (lawful K.Kind.theory (lawful_by K.undo K.swap_back K.same_effect K.turning K.three K.growth K.reach K.stays_written K.held_in_words)).three };
+    ghost three = { (lawful K.Kind.theory K.lawful).three };
 
-    ghost growth = { (lawful K.Kind.theory (lawful_by K.undo K.swap_back K.same_effect K.turning K.three K.growth K.reach K.stays_written K.held_in_words)).grows };
+    ghost growth = { (lawful K.Kind.theory K.lawful).grows };
 
-    ghost reach = { (lawful K.Kind.theory (lawful_by K.undo K.swap_back K.same_effect K.turning K.three K.growth K.reach K.stays_written K.held_in_words)).reach };
+    ghost reach = { (lawful K.Kind.theory K.lawful).reach };
 
-    ghost stays_written = { (lawful K.Kind.theory (lawful_by K.undo K.swap_back K.same_effect K.turning K.three K.growth K.reach K.stays_written K.held_in_words)).stays_written };
+    ghost stays_written = { (lawful K.Kind.theory K.lawful).stays_written };
 
-    ghost held_in_words = { (lawful K.Kind.theory (lawful_by K.undo K.swap_back K.same_effect K.turning K.three K.growth K.reach K.stays_written K.held_in_words)).held_in_words };
+    ghost held_in_words = { (lawful K.Kind.theory K.lawful).held_in_words };
 
     fn words() -> u32 {
         total(COUNT as u32, sheet_words::<K>(), 0)

@@ -1,7 +1,7 @@
 -- Tables of 8 by 8 cells, each of which holds a number from -32,768 to 32,767.
 use Rattle.std.specs.Prelude.{◌≡◌, ℕ, ◌+◌, ◌*◌, ◌<◌, Bool, true, false, cond, ◌&&◌, List, [], ◌∷◌, map, length, replicate, ℤ, pos, negsuc, Some, None, Ok, Err, Option, Result, ◌==◌, int_le, nat_lt, slice_index_or, slice_set, unsigned_abs}
 use Rattle.std.specs.Int.{int_rem_euclid}
-use Rattle.std.specs.List.{AllByRecursion as All}
+use Rattle.std.specs.List.{AllByRecursion}
 use Rattle.kinds.specs.Theory.{Theory}
 use Rattle.tables.specs.declared.Cell.{Cell}
 use Rattle.tables.specs.declared.CellChange.{CellChange}
@@ -79,7 +79,7 @@ table = record {
   written = change_written;
   far = λ p q. false;
   full = λ p d. false;
-  fits = λ d. (length d ≡ 64) × All (λ v. in_range v ≡ true) d;
+  fits = λ d. (length d ≡ 64) × AllByRecursion (λ v. in_range v ≡ true) d;
   width = 64;
   encode = map word;
 }

@@ -1,7 +1,7 @@
 -- Tables in words.
 use Rattle.std.specs.Prelude.{◌≡◌, ℕ, zero, suc, true, List, [], ◌∷◌, map, length, replicate, ℤ, pos, refl}
 use Rattle.std.proofs.Common.{ap, ap₂, ◌∙◌, arith}
-use Rattle.std.specs.List.{AllByRecursion as All}
+use Rattle.std.specs.List.{AllByRecursion}
 use Rattle.std.proofs.ByRecursion.{All-set}
 use Rattle.std.proofs.lemmas.List.{length-set, length-map}
 use Rattle.std.proofs.lemmas.Bool.{and_parts, eqb-true}
@@ -11,7 +11,7 @@ use Rattle.tables.specs.Table.{table, in_range, word, zeros, place}
 use Rattle.tables.specs.Proofs.Takes.{Changed, changed, written_parts}
 use Rattle.tables.specs.Proofs.Values.{same_from_test, word_apart}
 
-all_zero : (n : ℕ) → All (λ v. in_range v ≡ true) (replicate n (pos 0))
+all_zero : (n : ℕ) → AllByRecursion (λ v. in_range v ≡ true) (replicate n (pos 0))
 all_zero zero = tt
 all_zero (suc n) = (refl, all_zero n)
 
@@ -20,7 +20,7 @@ zeros_only [] h = refl
 zeros_only (v ∷ vs) h = let a = and_parts _ _ h in ap₂ ◌∷◌ (same_from_test v (pos 0) a.0) (zeros_only vs a.1)
 
 -- no two tables have the same words
-words_apart : (d e : List ℤ) → All (λ v. in_range v ≡ true) d → All (λ v. in_range v ≡ true) e → map word d ≡ map word e → d ≡ e
+words_apart : (d e : List ℤ) → AllByRecursion (λ v. in_range v ≡ true) d → AllByRecursion (λ v. in_range v ≡ true) e → map word d ≡ map word e → d ≡ e
 words_apart [] [] f g h = refl
 words_apart [] (y ∷ ys) f g h = absurd (let z : ◌≡◌ {A = ℕ} 0 1 = cc in omega arith)
 words_apart (x ∷ xs) [] f g h = absurd (let z : ◌≡◌ {A = ℕ} 0 1 = cc in omega arith)

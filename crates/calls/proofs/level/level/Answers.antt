@@ -1,4 +1,3 @@
-use Rattle.kinds.proofs.Bound.{lawful_of}
 use Rattle.std.proofs.lemmas.Result.{err_from_is_err_and}
 use Rattle.shop.proofs.Promising.{promise_kept}
 use Rattle.calls.proofs.Called.{exit_is}
@@ -11,7 +10,7 @@ returns-in_err-in_shop g c =
     record {
       answer = a;
       level = is_level g.K.Kind.theory c.args.shop.now c.args.first c.args.second _ a;
-      promise = promise_kept g.K.Kind.theory (lawful_of g.met.K.Kind);
+      promise = promise_kept g.K.Kind.theory g.met.K.Kind.lawful;
     }
 
 pub returns-in_err-in_shop-2 : goal.returns-in_err-in_shop-2
@@ -21,7 +20,7 @@ returns-in_err-in_shop-2 g c =
     record {
       answer = a;
       level = is_level g.K.Kind.theory c.args.shop.now c.args.first c.args.second _ a;
-      promise = promise_kept g.K.Kind.theory (lawful_of g.met.K.Kind);
+      promise = promise_kept g.K.Kind.theory g.met.K.Kind.lawful;
     }
 
 pub returns : goal.returns
@@ -31,5 +30,5 @@ returns g c =
     record {
       answer = a;
       level = is_level g.K.Kind.theory c.args.shop.now c.args.first c.args.second _ a;
-      promise = promise_kept g.K.Kind.theory (lawful_of g.met.K.Kind);
+      promise = promise_kept g.K.Kind.theory g.met.K.Kind.lawful;
     }

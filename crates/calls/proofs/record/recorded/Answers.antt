@@ -1,6 +1,5 @@
 use Rattle.std.proofs.Common.{◌+◌, ltb, sym, refl}
 use Rattle.std.proofs.lemmas.Result.{err_from_is_err_and}
-use Rattle.kinds.proofs.Bound.{lawful_of}
 use Rattle.histories.specs.Named.{under}
 use Rattle.calls.proofs.SoundRow.{a_name}
 use Rattle.calls.proofs.Recorded.{left_refused, stops, formed, no_form, nameless, no_room, no_document, applied}
@@ -48,7 +47,7 @@ returns-in_err-apply_changes g c =
     record {
       document = λ w. rw (p.1, p.2) (applied g.K.Kind.theory c.args.shop.now c.args.number c.args.changes.now c.row-history.result.now c.row-history.ensures c.in_ok-sound.ensures c.in_ok-name.name c.in_ok-name.ensures
           (c.in_ok-room_for.ensures (under (c.args.shop.now.counter + 1) c.args.changes.now) refl (sym c.growth_of.ensures))
-          (lawful_of g.met.K.Kind) c.args.run.now c.document.new.run c.apply_changes.new.run _ w (c.in_ok-document.ensures c.args.shop.now.counter (formed g.K.Kind.theory c.args.shop.now c.args.number c.args.changes.now c.row-history.result.now c.row-history.ensures c.in_ok-sound.ensures) w) c.document.auto.run c.in_err-apply_changes.ensures);
+          g.met.K.Kind.lawful c.args.run.now c.document.new.run c.apply_changes.new.run _ w (c.in_ok-document.ensures c.args.shop.now.counter (formed g.K.Kind.theory c.args.shop.now c.args.number c.args.changes.now c.row-history.result.now c.row-history.ensures c.in_ok-sound.ensures) w) c.document.auto.run c.in_err-apply_changes.ensures);
       name = rw p.1 tt;
     }
 
@@ -56,6 +55,6 @@ pub returns : goal.returns
 returns g c = record {
   document = λ w. applied g.K.Kind.theory c.args.shop.now c.args.number c.args.changes.now c.row-history.result.now c.row-history.ensures c.in_ok-sound.ensures c.in_ok-name.name c.in_ok-name.ensures
       (c.in_ok-room_for.ensures (under (c.args.shop.now.counter + 1) c.args.changes.now) refl (sym c.growth_of.ensures))
-      (lawful_of g.met.K.Kind) c.args.run.now c.document.new.run c.apply_changes.new.run _ w (c.in_ok-document.ensures c.args.shop.now.counter (formed g.K.Kind.theory c.args.shop.now c.args.number c.args.changes.now c.row-history.result.now c.row-history.ensures c.in_ok-sound.ensures) w) c.document.auto.run c.in_ok-apply_changes.ensures;
+      g.met.K.Kind.lawful c.args.run.now c.document.new.run c.apply_changes.new.run _ w (c.in_ok-document.ensures c.args.shop.now.counter (formed g.K.Kind.theory c.args.shop.now c.args.number c.args.changes.now c.row-history.result.now c.row-history.ensures c.in_ok-sound.ensures) w) c.document.auto.run c.in_ok-apply_changes.ensures;
   name = (a_name (ltb c.args.shop.now.counter 255) (c.args.shop.now.counter + 1) c.in_ok-name.name c.in_ok-name.ensures).1;
 }

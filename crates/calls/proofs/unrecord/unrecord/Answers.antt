@@ -1,6 +1,5 @@
 use Rattle.std.proofs.Common.{length, ap, ◌∙◌}
 use Rattle.std.proofs.lemmas.Result.{err_from_is_err_and}
-use Rattle.kinds.proofs.Bound.{lawful_of}
 use Rattle.forms.specs.Form.{grouped}
 use Rattle.shop.specs.Reached.{Unrecord}
 use Rattle.calls.proofs.Called.{refused_so, exit_is}
@@ -17,7 +16,7 @@ returns-in_err-place g c =
 pub returns : goal.returns
 returns g c =
     let a = dropped g.K.Kind.theory c.args.shop.now c.args.work.now c.take_out.new.work c.args.number c.args.name c.in_ok-place.place
-    (in_row g.K.Kind.theory c.args.shop.now c.args.work.now c.take_out.new.work c.args.number c.args.name (lawful_of g.met.K.Kind) c.in_ok-place.place c.in_ok-place.ensures)
+    (in_row g.K.Kind.theory c.args.shop.now c.args.work.now c.take_out.new.work c.args.number c.args.name g.met.K.Kind.lawful c.in_ok-place.place c.in_ok-place.ensures)
     c.replace.new.shop c.replace.ensures.rows c.replace.ensures.rooms c.replace.ensures.counter
     c.patch_count.result (c.patch_count.ensures ∙ ap (λ z. length (grouped z)) c.row.ensures) in
     record { answer = a.answer; state = a.state; rooms = a.rooms; reached = a.reached; untouched = tt }

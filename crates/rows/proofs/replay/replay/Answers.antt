@@ -1,6 +1,5 @@
 use Rattle.std.proofs.lemmas.List.{take_all}
 use Rattle.std.proofs.lemmas.Result.{err_from_is_err_and}
-use Rattle.kinds.proofs.Bound.{lawful_of}
 use Rattle.rows.proofs.Replaying.{one_more, broken_off}
 use Rattle.rows.proofs.replay.replay.Goals as goal
 
@@ -8,12 +7,12 @@ pub returns-in_err-at_step : goal.returns-in_err-at_step
 returns-in_err-at_step g c =
     let p = err_from_is_err_and c.from_residual.result c.from_residual.ensures.1 in
     rw (p.1, p.2) (broken_off g.K.Kind.theory c.args.row.now c.args.run.now _ _ c.apply.new.run
-    (one_more g.K.Kind.theory c.args.row.now c.args.run.now (lawful_of g.met.K.Kind) c.loop-i.i c.index-row-i.result c.loop-i.run c.apply.result _ c.apply.new.run
+    (one_more g.K.Kind.theory c.args.row.now c.args.run.now g.met.K.Kind.lawful c.loop-i.i c.index-row-i.result c.loop-i.run c.apply.result _ c.apply.new.run
     c.loop-i-test.true c.index-row-i.is c.loop-i.invariant c.apply.ensures c.in_err-at_step.ensures))
 
 pub loop-i-preserved : goal.loop-i-preserved
 loop-i-preserved g c =
-    one_more g.K.Kind.theory c.args.row.now c.args.run.now (lawful_of g.met.K.Kind) c.loop-i.i c.index-row-i.result c.loop-i.run c.apply.result _ c.apply.new.run
+    one_more g.K.Kind.theory c.args.row.now c.args.run.now g.met.K.Kind.lawful c.loop-i.i c.index-row-i.result c.loop-i.run c.apply.result _ c.apply.new.run
     c.loop-i-test.true c.index-row-i.is c.loop-i.invariant c.apply.ensures c.in_ok-at_step.ensures
 
 pub returns : goal.returns
