@@ -1,4 +1,5 @@
 -- A patch taken out of a copy of its history, in the work row.
+use Rattle.std.specs.Prelude.{option_map}
 use Rattle.std.proofs.Common.{◌≡◌, ℕ, ◌-◌, ◌≤◌, List, ◌∷◌, ◌++◌, length, take, drop, Some, None, Ok, Err, Option, Result, sym, refl, ap, ◌∙◌, subst, arith}
 use lib.ListN.{length-map}
 use Rattle.std.proofs.lemmas.List.{append_assoc, take_at}
@@ -15,7 +16,7 @@ use Rattle.histories.specs.Flat.{flat_of, flat, flat_both, ToEnd}
 use Rattle.histories.proofs.Flattening.{flat_append, passing_flat, passing_lengths}
 use Rattle.forms.specs.declared.find.Place.{Place}
 use Rattle.forms.specs.Form.{grouped, sound}
-use Rattle.forms.specs.Find.{Standing, option_map, standing, place_of}
+use Rattle.forms.specs.Find.{Standing, standing, place_of}
 use Rattle.forms.proofs.Finding.{found_row}
 use Rattle.forms.proofs.Grouping.{}
 use Rattle.shop.specs.declared.refusal.Refusal.{Refusal}

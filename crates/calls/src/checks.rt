@@ -5,7 +5,7 @@ ghost use Rattle.kinds.specs.Parts.{part};
 ghost use Rattle.histories.specs.declared.named.Named.{Named as Under};
 ghost use Rattle.histories.specs.Named.{patches};
 ghost use Rattle.forms.specs.Form.{grouped, sound as sound_history};
-ghost use Rattle.shop.specs.Calls.{in_shop, a_patch, «room_for», or_refused};
+ghost use Rattle.shop.specs.Calls.{in_shop, a_patch, room_for, or_refused};
 ghost use Rattle.shop.specs.declared.refusal.Refusal.TheVariants.{NoName, Torn};
 
 use forms::changes::{MOST_IN_PATCH, first_unwritable};

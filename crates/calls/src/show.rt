@@ -2,7 +2,7 @@
 ghost use Rattle.std.specs.Prelude.{◌≡◌, true, length, Some};
 ghost use Rattle.kinds.specs.Bounded.{roomy};
 ghost use Rattle.kinds.specs.Parts.{part};
-ghost use Rattle.kinds.specs.Sequences.{«and_then»};
+ghost use Rattle.kinds.specs.Sequences.{and_then};
 ghost use Rattle.shop.specs.Calls.{sound_at, document as document_of, show as show_answer};
 ghost use Rattle.shop.specs.Held.{rooms, state_of};
 ghost use Rattle.calls.specs.Run.{run_after, LeftInRun};

@@ -1,6 +1,6 @@
 // A patch passed over all later ones, in a copy of its history.
 ghost use Rattle.std.specs.Prelude.{◌≡◌, ◌∷◌, length, None};
-ghost use Rattle.shop.specs.Calls.{needed_by as needed_in, «taken_out»};
+ghost use Rattle.shop.specs.Calls.{needed_by as needed_in, taken_out};
 ghost use Rattle.shop.specs.Held.{rooms, state_of};
 ghost use Rattle.calls.specs.TakeOut.{TakenInRow};
 

@@ -1,4 +1,5 @@
 -- The first patch of a name, found patch by patch.
+use Rattle.std.specs.Prelude.{option_map}
 use Rattle.std.proofs.Common.{◌≡◌, ℕ, ◌+◌, ◌-◌, Bool, true, false, cond, ◌||◌, eqb, List, [], ◌∷◌, ◌++◌, length, get_or, take, drop, is_some, Some, None, Option, sym, refl, ap, ◌∙◌, arith}
 use Rattle.std.proofs.lemmas.Bool.{eqb-true, eq-eqb, ne_eqb, true≢false}
 use Rattle.histories.specs.declared.named.Named.{Named}
@@ -7,7 +8,7 @@ use Rattle.histories.specs.Flat.{flat_of, flat}
 use Rattle.histories.proofs.Flattening.{flat_append}
 use Rattle.forms.specs.declared.find.Place.{Place}
 use Rattle.forms.specs.Form.{grouped, first_count}
-use Rattle.forms.specs.Find.{Standing, option_map, one_before, standing, place_of}
+use Rattle.forms.specs.Find.{Standing, one_before, standing, place_of}
 use Rattle.forms.proofs.Grouping.{flat_length, flat_grouped}
 use Rattle.forms.proofs.FirstPatch.{First, first_of, none_grouped}
 

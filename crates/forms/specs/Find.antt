@@ -1,5 +1,5 @@
 -- Where something stands: a patch in a history and in its flat row, a change that cannot be written.
-use Rattle.std.specs.Prelude.{ℕ, ◌+◌, cond, List, [], ◌∷◌, length, Some, None, Option, ◌==◌}
+use Rattle.std.specs.Prelude.{ℕ, ◌+◌, cond, List, [], ◌∷◌, length, Some, None, Option, option_map, ◌==◌}
 use Rattle.kinds.specs.Theory.{Theory}
 use Rattle.histories.specs.declared.named.Named.{Named}
 use Rattle.histories.specs.Flat.{flat}
@@ -10,11 +10,6 @@ pub record Standing (P : Type 0) : Type 0 where
   pub before : List P
   pub itself : P
   pub behind : List P
-
--- the value in an option, changed
-abbrev pub option_map : {A B : Type 0} → (A → B) → Option A → Option B
-option_map f None = None
-option_map f (Some a) = Some (f a)
 
 module _ {P : Type 0} (name : P → ℕ) where
   -- one more patch stands before it

@@ -1,8 +1,8 @@
 // Where a patch stands in a flat row.
-ghost use Rattle.std.specs.Prelude.{◌≡◌, ◌+◌, ◌<◌, ◌≤◌, length, IfSome};
+ghost use Rattle.std.specs.Prelude.{◌≡◌, ◌+◌, ◌<◌, ◌≤◌, length, option_map, IfSome};
 ghost use Rattle.histories.specs.History.{holds as held};
 ghost use Rattle.forms.specs.Form.{grouped, first_count};
-ghost use Rattle.forms.specs.Find.{«option_map», standing, «place_of»};
+ghost use Rattle.forms.specs.Find.{standing, place_of};
 
 use histories::flat::leading;
 use histories::named::Named;

@@ -87,17 +87,3 @@ module _ {P F : Type 0} (T : Theory P F) where
     pub reach : Reach
     pub stays_written : StaysWritten
     pub held_in_words : HeldInWords
-
--- All of them, from one of each.
-pub lawful_by : {P F : Type 0} {T : Theory P F} → Undo T → SwapBack T → SameEffect T → Turning T → Three T → Growth T → Reach T → StaysWritten T → HeldInWords T → Lawful T
-lawful_by undo swap_back same_effect turning three grows reach stays_written held_in_words = record {
-  undo = undo;
-  swap_back = swap_back;
-  same_effect = same_effect;
-  turning = turning;
-  three = three;
-  grows = grows;
-  reach = reach;
-  stays_written = stays_written;
-  held_in_words = held_in_words;
-}

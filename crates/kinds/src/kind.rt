@@ -1,7 +1,7 @@
 ghost use Rattle.std.specs.Prelude.{◌≡◌};
 ghost use Rattle.kinds.specs.Theory.{Theory};
 ghost use Rattle.kinds.specs.Bounded.{answer, Applied, saturated};
-ghost use Rattle.kinds.specs.Laws.{Undo, SwapBack, SameEffect, Turning, Three, Growth, Reach, StaysWritten, HeldInWords, Lawful, lawful_by};
+ghost use Rattle.kinds.specs.Laws.{Undo, SwapBack, SameEffect, Turning, Three, Growth, Reach, StaysWritten, HeldInWords, Lawful};
 
 use crate::answers::{Clash, Failure};
 
@@ -56,5 +56,15 @@ pub trait Kind {
     ghost held_in_words: { HeldInWords theory };
 
     // All laws in one record. It follows from those above, and no impl writes it.
-    ghost lawful: { Lawful theory } = { lawful_by undo swap_back same_effect turning three growth reach stays_written held_in_words };
+    ghost lawful: { Lawful theory } = { record {
+      undo = undo;
+      swap_back = swap_back;
+      same_effect = same_effect;
+      turning = turning;
+      three = three;
+      grows = growth;
+      reach = reach;
+      stays_written = stays_written;
+      held_in_words = held_in_words;
+    } };
 }

@@ -1,7 +1,7 @@
 // Lists of lines, for every line type: the hunk as a kind of patch.
 #![tactic(auto)]
 
-ghost use Rattle.lists.specs.Proofs.Lawful.{lawful};
+ghost use Rattle.lists.specs.Proofs.Lawful.{lists_lawful};
 ghost use Rattle.lists.specs.Hunk.{lists as the_lists};
 
 pub mod apply;
@@ -25,23 +25,23 @@ impl<L: Line> Kind for Lists<L> {
 
     ghost theory = { the_lists L.Line.form };
 
-    ghost undo = { (lawful L.Line.form L.filled L.read_back L.tells_same).undo };
+    ghost undo = { (lists_lawful L.Line.form L.filled L.read_back L.tells_same).undo };
 
-    ghost swap_back = { (lawful L.Line.form L.filled L.read_back L.tells_same).swap_back };
+    ghost swap_back = { (lists_lawful L.Line.form L.filled L.read_back L.tells_same).swap_back };
 
-    ghost same_effect = { (lawful L.Line.form L.filled L.read_back L.tells_same).same_effect };
+    ghost same_effect = { (lists_lawful L.Line.form L.filled L.read_back L.tells_same).same_effect };
 
-    ghost turning = { (lawful L.Line.form L.filled L.read_back L.tells_same).turning };
+    ghost turning = { (lists_lawful L.Line.form L.filled L.read_back L.tells_same).turning };
 
-    ghost three = { (lawful L.Line.form L.filled L.read_back L.tells_same).three };
+    ghost three = { (lists_lawful L.Line.form L.filled L.read_back L.tells_same).three };
 
-    ghost growth = { (lawful L.Line.form L.filled L.read_back L.tells_same).grows };
+    ghost growth = { (lists_lawful L.Line.form L.filled L.read_back L.tells_same).grows };
 
-    ghost reach = { (lawful L.Line.form L.filled L.read_back L.tells_same).reach };
+    ghost reach = { (lists_lawful L.Line.form L.filled L.read_back L.tells_same).reach };
 
-    ghost stays_written = { (lawful L.Line.form L.filled L.read_back L.tells_same).stays_written };
+    ghost stays_written = { (lists_lawful L.Line.form L.filled L.read_back L.tells_same).stays_written };
 
-    ghost held_in_words = { (lawful L.Line.form L.filled L.read_back L.tells_same).held_in_words };
+    ghost held_in_words = { (lists_lawful L.Line.form L.filled L.read_back L.tells_same).held_in_words };
 
     fn words() -> u32 {
         list_words::<L>()

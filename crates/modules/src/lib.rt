@@ -6,7 +6,7 @@ ghost use Rattle.kinds.specs.Bounded.{Applied};
 ghost use Rattle.kinds.specs.Parts.{failing};
 ghost use Rattle.kinds.specs.Slots.{Around};
 ghost use Rattle.modules.specs.declared.ModuleFault.TheVariants.{Inside as inside};
-ghost use Rattle.modules.specs.Proofs.ModuleLaws.{lawful};
+ghost use Rattle.modules.specs.Proofs.ModuleLaws.{modules_lawful};
 ghost use Rattle.modules.specs.Modules.{modules as the_modules};
 
 use kinds::answers::{Clash, Failure};
@@ -56,23 +56,23 @@ impl<K: Kind> Kind for Modules<K> {
 
     ghost theory = { the_modules K.Kind.theory };
 
-    ghost undo = { (lawful K.Kind.theory K.lawful).undo };
+    ghost undo = { (modules_lawful K.Kind.theory K.lawful).undo };
 
-    ghost swap_back = { (lawful K.Kind.theory K.lawful).swap_back };
+    ghost swap_back = { (modules_lawful K.Kind.theory K.lawful).swap_back };
 
-    ghost same_effect = { (lawful K.Kind.theory K.lawful).same_effect };
+    ghost same_effect = { (modules_lawful K.Kind.theory K.lawful).same_effect };
 
-    ghost turning = { (lawful K.Kind.theory K.lawful).turning };
+    ghost turning = { (modules_lawful K.Kind.theory K.lawful).turning };
 
-    ghost three = { (lawful K.Kind.theory K.lawful).three };
+    ghost three = { (modules_lawful K.Kind.theory K.lawful).three };
 
-    ghost growth = { (lawful K.Kind.theory K.lawful).grows };
+    ghost growth = { (modules_lawful K.Kind.theory K.lawful).grows };
 
-    ghost reach = { (lawful K.Kind.theory K.lawful).reach };
+    ghost reach = { (modules_lawful K.Kind.theory K.lawful).reach };
 
-    ghost stays_written = { (lawful K.Kind.theory K.lawful).stays_written };
+    ghost stays_written = { (modules_lawful K.Kind.theory K.lawful).stays_written };
 
-    ghost held_in_words = { (lawful K.Kind.theory K.lawful).held_in_words };
+    ghost held_in_words = { (modules_lawful K.Kind.theory K.lawful).held_in_words };
 
     fn words() -> u32 {
         total(COUNT as u32, K::words(), 0)

@@ -4,7 +4,7 @@
 ghost use Rattle.std.specs.Prelude.{◌≡◌};
 ghost use Rattle.kinds.specs.Parts.{part};
 ghost use Rattle.kinds.specs.Sequences.{answer_over};
-ghost use Rattle.pairs.specs.Proofs.PairLaws.{lawful};
+ghost use Rattle.pairs.specs.Proofs.PairLaws.{pairs_lawful};
 ghost use Rattle.pairs.specs.Pairs.{listed, pairs as the_pairs};
 
 use kinds::answers::{Clash, Failure};
@@ -47,23 +47,23 @@ impl<K: Kind> Kind for Pairs<K> {
 
     ghost theory = { the_pairs K.Kind.theory };
 
-    ghost undo = { (lawful K.theory K.lawful).undo };
+    ghost undo = { (pairs_lawful K.Kind.theory K.lawful).undo };
 
-    ghost swap_back = { (lawful K.theory K.lawful).swap_back };
+    ghost swap_back = { (pairs_lawful K.Kind.theory K.lawful).swap_back };
 
-    ghost same_effect = { (lawful K.theory K.lawful).same_effect };
+    ghost same_effect = { (pairs_lawful K.Kind.theory K.lawful).same_effect };
 
-    ghost turning = { (lawful K.theory K.lawful).turning };
+    ghost turning = { (pairs_lawful K.Kind.theory K.lawful).turning };
 
-    ghost three = { (lawful K.theory K.lawful).three };
+    ghost three = { (pairs_lawful K.Kind.theory K.lawful).three };
 
-    ghost growth = { (lawful K.theory K.lawful).grows };
+    ghost growth = { (pairs_lawful K.Kind.theory K.lawful).grows };
 
-    ghost reach = { (lawful K.theory K.lawful).reach };
+    ghost reach = { (pairs_lawful K.Kind.theory K.lawful).reach };
 
-    ghost stays_written = { (lawful K.theory K.lawful).stays_written };
+    ghost stays_written = { (pairs_lawful K.Kind.theory K.lawful).stays_written };
 
-    ghost held_in_words = { (lawful K.theory K.lawful).held_in_words };
+    ghost held_in_words = { (pairs_lawful K.Kind.theory K.lawful).held_in_words };
 
     fn words() -> u32 {
         K::words()

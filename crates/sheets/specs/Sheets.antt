@@ -1,5 +1,5 @@
 -- Sheets: a document is a list of documents of the kind below, each there or not, and a change makes, removes or moves one, or changes it inside.
-use Rattle.std.specs.Prelude.{◌≡◌, ℕ, ◌+◌, ◌*◌, ◌<◌, Bool, true, false, cond, not, ◌&&◌, ◌||◌, List, ◌∷◌, length, drop, set, replicate, Some, None, Ok, Err, sum_by, Option, Result, ◌==◌, nat_lt, slice_index, slice_set}
+use Rattle.std.specs.Prelude.{◌≡◌, ℕ, ◌+◌, ◌*◌, ◌<◌, Bool, true, false, cond, not, ◌&&◌, ◌||◌, List, ◌∷◌, length, drop, replicate, Some, None, Ok, Err, sum_by, Option, Result, ◌==◌, nat_lt, slice_index, slice_set}
 use Rattle.std.proofs.Math.Seq.{paste}
 use Rattle.std.specs.List.{AllByRecursion, slice_get, flat_map}
 use Rattle.kinds.specs.declared.answers.Failure.{Failure}
@@ -47,7 +47,7 @@ module _ {P F : Type 0} (T : Theory P F) where
   sheet_apply (Create a) d = if_absent a (Ok (slice_set d a.0 (Some T.fresh))) (slice_get d a.0)
   sheet_apply (Remove a) d = if_there a (λ x. cond (T.blank x) (Ok (slice_set d a.0 None)) (Err (NotFresh a))) (slice_get d a.0)
   sheet_apply (Move a b) d = if_there a (λ x. if_absent b (Ok (slice_set (slice_set d a.0 None) b.0 (Some x))) (slice_get d b.0)) (slice_get d a.0)
-  sheet_apply (Inside a p) d = if_there a (λ x. part (λ y. set d a.0 (Some y)) (InSheet a) (T.apply p x)) (slice_get d a.0)
+  sheet_apply (Inside a p) d = if_there a (λ x. part (λ y. slice_set d a.0 (Some y)) (InSheet a) (T.apply p x)) (slice_get d a.0)
 
   -- creating and removing are inverses, and so are moving there and back
   abbrev pub sheet_invert : SheetChange P → SheetChange P

@@ -7,7 +7,7 @@ ghost use Rattle.kinds.specs.Parts.{failing};
 ghost use Rattle.kinds.specs.Slots.{every};
 ghost use Rattle.sheets.specs.declared.SheetFault.TheVariants.{Inside as in_sheet};
 ghost use Rattle.sheets.specs.declared.SheetChange.TheVariants.{Create as creating, Remove as removing, Move as moving, Inside as changing};
-ghost use Rattle.sheets.specs.Proofs.SheetLaws.{lawful};
+ghost use Rattle.sheets.specs.Proofs.SheetLaws.{sheets_lawful};
 ghost use Rattle.sheets.specs.Sheets.{touches as is_of, share as are_of_one, there_at, absent_at, moved_words, FourSheets, Worked, Others, sheets as the_sheets};
 
 use kinds::answers::{Clash, Failure};
@@ -215,23 +215,23 @@ impl<K: Kind> Kind for Sheets<K> {
 
     ghost theory = { the_sheets K.Kind.theory };
 
-    ghost undo = { (lawful K.Kind.theory K.lawful).undo };
+    ghost undo = { (sheets_lawful K.Kind.theory K.lawful).undo };
 
-    ghost swap_back = { (lawful K.Kind.theory K.lawful).swap_back };
+    ghost swap_back = { (sheets_lawful K.Kind.theory K.lawful).swap_back };
 
-    ghost same_effect = { (lawful K.Kind.theory K.lawful).same_effect };
+    ghost same_effect = { (sheets_lawful K.Kind.theory K.lawful).same_effect };
 
-    ghost turning = { (lawful K.Kind.theory K.lawful).turning };
+    ghost turning = { (sheets_lawful K.Kind.theory K.lawful).turning };
 
-    ghost three = { (lawful K.Kind.theory K.lawful).three };
+    ghost three = { (sheets_lawful K.Kind.theory K.lawful).three };
 
-    ghost growth = { (lawful K.Kind.theory K.lawful).grows };
+    ghost growth = { (sheets_lawful K.Kind.theory K.lawful).grows };
 
-    ghost reach = { (lawful K.Kind.theory K.lawful).reach };
+    ghost reach = { (sheets_lawful K.Kind.theory K.lawful).reach };
 
-    ghost stays_written = { (lawful K.Kind.theory K.lawful).stays_written };
+    ghost stays_written = { (sheets_lawful K.Kind.theory K.lawful).stays_written };
 
-    ghost held_in_words = { (lawful K.Kind.theory K.lawful).held_in_words };
+    ghost held_in_words = { (sheets_lawful K.Kind.theory K.lawful).held_in_words };
 
     fn words() -> u32 {
         total(COUNT as u32, sheet_words::<K>(), 0)

@@ -6,7 +6,7 @@ ghost use Rattle.kinds.specs.Parts.{failing};
 ghost use Rattle.sides.specs.declared.Side.TheVariants.{Left as to_left, Right as to_right};
 ghost use Rattle.kinds.specs.Bounded.{Applied};
 ghost use Rattle.kinds.specs.Slots.{Around};
-ghost use Rattle.sides.specs.Proofs.SideLaws.{lawful};
+ghost use Rattle.sides.specs.Proofs.SideLaws.{sides_lawful};
 ghost use Rattle.sides.specs.Sides.{sides as the_sides, side_start, side_width};
 
 use kinds::answers::{Clash, Failure};
@@ -52,23 +52,23 @@ impl<L: Kind, R: Kind> Kind for Sides<L, R> {
 
     ghost theory = { the_sides L.Kind.theory R.Kind.theory };
 
-    ghost undo = { (lawful L.Kind.theory R.Kind.theory L.lawful R.lawful).undo };
+    ghost undo = { (sides_lawful L.Kind.theory R.Kind.theory L.lawful R.lawful).undo };
 
-    ghost swap_back = { (lawful L.Kind.theory R.Kind.theory L.lawful R.lawful).swap_back };
+    ghost swap_back = { (sides_lawful L.Kind.theory R.Kind.theory L.lawful R.lawful).swap_back };
 
-    ghost same_effect = { (lawful L.Kind.theory R.Kind.theory L.lawful R.lawful).same_effect };
+    ghost same_effect = { (sides_lawful L.Kind.theory R.Kind.theory L.lawful R.lawful).same_effect };
 
-    ghost turning = { (lawful L.Kind.theory R.Kind.theory L.lawful R.lawful).turning };
+    ghost turning = { (sides_lawful L.Kind.theory R.Kind.theory L.lawful R.lawful).turning };
 
-    ghost three = { (lawful L.Kind.theory R.Kind.theory L.lawful R.lawful).three };
+    ghost three = { (sides_lawful L.Kind.theory R.Kind.theory L.lawful R.lawful).three };
 
-    ghost growth = { (lawful L.Kind.theory R.Kind.theory L.lawful R.lawful).grows };
+    ghost growth = { (sides_lawful L.Kind.theory R.Kind.theory L.lawful R.lawful).grows };
 
-    ghost reach = { (lawful L.Kind.theory R.Kind.theory L.lawful R.lawful).reach };
+    ghost reach = { (sides_lawful L.Kind.theory R.Kind.theory L.lawful R.lawful).reach };
 
-    ghost stays_written = { (lawful L.Kind.theory R.Kind.theory L.lawful R.lawful).stays_written };
+    ghost stays_written = { (sides_lawful L.Kind.theory R.Kind.theory L.lawful R.lawful).stays_written };
 
-    ghost held_in_words = { (lawful L.Kind.theory R.Kind.theory L.lawful R.lawful).held_in_words };
+    ghost held_in_words = { (sides_lawful L.Kind.theory R.Kind.theory L.lawful R.lawful).held_in_words };
 
     fn words() -> u32 {
         total(1, L::words(), R::words())

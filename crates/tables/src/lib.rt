@@ -4,7 +4,7 @@
 ghost use Rattle.std.specs.Prelude.{◌≡◌, ℕ, true, false, ℤ, is_ok, if◌then◌else◌, Some, None, ◌≢◌, slice_index};
 ghost use Rattle.kinds.specs.Bounded.{Applied};
 ghost use Rattle.tables.specs.Table.{in_table, place as place_of, in_range, word as word_of, Read, table};
-ghost use Rattle.tables.specs.Proofs.Changes.{lawful};
+ghost use Rattle.tables.specs.Proofs.Changes.{table_lawful};
 
 use kinds::answers::{Clash, Failure};
 use kinds::counts::roomy;
@@ -73,23 +73,23 @@ impl Kind for Tables {
 
     ghost theory = { table };
 
-    ghost undo = { lawful.undo };
+    ghost undo = { table_lawful.undo };
 
-    ghost swap_back = { lawful.swap_back };
+    ghost swap_back = { table_lawful.swap_back };
 
-    ghost same_effect = { lawful.same_effect };
+    ghost same_effect = { table_lawful.same_effect };
 
-    ghost turning = { lawful.turning };
+    ghost turning = { table_lawful.turning };
 
-    ghost three = { lawful.three };
+    ghost three = { table_lawful.three };
 
-    ghost growth = { lawful.grows };
+    ghost growth = { table_lawful.grows };
 
-    ghost reach = { lawful.reach };
+    ghost reach = { table_lawful.reach };
 
-    ghost stays_written = { lawful.stays_written };
+    ghost stays_written = { table_lawful.stays_written };
 
-    ghost held_in_words = { lawful.held_in_words };
+    ghost held_in_words = { table_lawful.held_in_words };
 
     fn words() -> u32 {
         64

@@ -156,8 +156,8 @@ module _ {L : Type 0} (F : Form L) (fills : Fills F) (reads : Reads F) (tells : 
     apart = λ d e k l h. same_lists F fills reads d e (replicate ((most - length d) * F.width) 0) (replicate ((most - length e) * F.width) 0) (cc) (cc);
   }
 
-  pub lawful : Lawful (lists F)
-  lawful = record {
+  pub lists_lawful : Lawful (lists F)
+  lists_lawful = record {
     undo = undo;
     swap_back = swap_back;
     same_effect = both_ways (lists F) swap_back forth;

@@ -123,8 +123,8 @@ module _ {P F : Type 0} (T : Theory P F) (l : Lawful T) where
   pub below : Holds T.fresh T.blank T.size T.fits T.width T.encode
   below = record { starts = l.held_in_words.starts; tells_fresh = l.held_in_words.tells_fresh; filled = l.held_in_words.filled; apart = l.held_in_words.apart }
 
-  pub lawful : Lawful M
-  lawful = record {
+  pub modules_lawful : Lawful M
+  modules_lawful = record {
     undo = undoing;
     swap_back = backing;
     same_effect = both_ways M backing (λ p q q' p' h d e t. forward (passes_from p q q' p' h) (does p d t.0 t.1) (does q t.0 e t.2));

@@ -32,5 +32,5 @@ module _ {P F : Type 0} (T : Theory P F) where
     within_commuted = λ p q q' p' h v w. (refl, refl);
   }
 
-  pub lawful : Lawful T → Lawful (pairs T)
-  lawful L = restricted_lawful (sequences T) listed patch_of (λ p. true) part_of_sequences (sequences_lawful T L)
+  pub pairs_lawful : Lawful T → Lawful (pairs T)
+  pairs_lawful L = restricted_lawful (sequences T) listed patch_of (λ p. true) part_of_sequences (sequences_lawful T L)

@@ -164,8 +164,8 @@ module _ {P F : Type 0} (T : Theory P F) (l : Lawful T) where
       told_apart (Some x) None f g e = absurd (flag (T.encode x) (sym e))
       told_apart (Some x) (Some y) f g e = ap Some (l.held_in_words.apart x y f g (let h : T.encode x ≡ T.encode y = cc in h))
 
-  pub lawful : Lawful S
-  lawful = record {
+  pub sheets_lawful : Lawful S
+  sheets_lawful = record {
     undo = undoing;
     swap_back = backing;
     same_effect = both_ways S backing forward;

@@ -156,8 +156,8 @@ module _ {P Q F G : Type 0} (L : Theory P F) (R : Theory Q G) (l : Lawful L) (r 
   zeros = ap (λ w. w ++ R.encode R.fresh) l.held_in_words.starts.2 ∙ ap (λ w. replicate L.width 0 ++ w) r.held_in_words.starts.2
       ∙ replicate-append-replicate L.width R.width 0
 
-  pub lawful : Lawful S
-  lawful = record {
+  pub sides_lawful : Lawful S
+  sides_lawful = record {
     undo = undoing;
     swap_back = backing;
     same_effect = both_ways S backing (λ p q q' p' h d e t. forward (passes p q q' p' h) (makes p d t.0 t.1) (makes q t.0 e t.2));

@@ -110,8 +110,8 @@ stays_written = record {
   commuted = λ p q q' p' h f w v. let c = commuted p q q' p' h in (rw c.second v, rw c.first w);
 }
 
-pub lawful : Lawful table
-lawful = record {
+pub table_lawful : Lawful table
+table_lawful = record {
   undo = undo;
   swap_back = swap_back;
   same_effect = both_ways table swap_back forward;
