@@ -11,7 +11,7 @@ use Rattle.kinds.specs.Sequences.{and_then, sequences}
 use Rattle.histories.specs.declared.named.Named.{Named}
 use Rattle.histories.specs.Named.{under, one_to_eight, patches}
 use Rattle.histories.specs.History.{replay}
-use Rattle.histories.proofs.Stops.{then_ok, then_err}
+use Rattle.histories.proofs.Stops.{ok_not_err, then_ok, then_err}
 use Rattle.histories.specs.Flat.{flat}
 use Rattle.forms.specs.Form.{grouped, sound, most_patches, most_changes}
 use Rattle.forms.proofs.Grouping.{flat_grouped, grouped_more}
@@ -27,7 +27,7 @@ use Rattle.memory.specs.Write.{room_at, appended_at}
 use Rattle.calls.specs.Run.{run_after, LeftInRun, new_document}
 use Rattle.calls.proofs.LongRows.{long_at}
 use Rattle.calls.proofs.Recorded.{left_done, left_refused}
-use Rattle.calls.proofs.SoundRow.{held_at, tested, not_refused}
+use Rattle.calls.proofs.SoundRow.{held_at, tested}
 
 module _ {P F : Type 0} (T : Theory P F) (m : Memory) (s : State P) (r : ℕ) (cs : List P) where
   -- the state with the patch
@@ -80,7 +80,7 @@ module _ {P F : Type 0} (T : Theory P F) (s : Shop P) (r : ℕ) (cs : List P) (n
       let fits : leb (length (row_at s r) + length (map (under name) cs)) (room_at s r) ≡ true = le-leb _ _ (omega (arith, length-map cs (under name))) in
       let fresh = numbered_fresh s.counter (grouped (row_at s r)) name (sound_parts T s.counter (grouped (row_at s r)) form).numbers new in
       ap (map grouped) (e ∙ ap (λ b. set (rows_of s) r (row_at s r ++ cond b (map (under name) cs) [])) fits) ∙ map-set grouped (rows_of s) r (row_at s r ++ map (under name) cs)
-      ∙ ap (set (map grouped (rows_of s)) r) (grouped_more (row_at s r) (under name cs) some fresh ∙ ap (λ h. h ++ under name cs ∷ []) (sym (held_at T s r)))
+      ∙ ap (set (map grouped (rows_of s)) r) (grouped_more (row_at s r) (under name cs) some fresh ∙ ap (λ h. h ++ under name cs ∷ []) (sym (held_at s r)))
 
   -- record was accepted
   pub record_done : (n : ℕ) (left : List ℕ) (rows : List (List (Named P))) → Ok tt ≡ in_shop T r → Ok tt ≡ enough T (record { rows = rooms s; run = Some n }) → Ok tt ≡ a_patch T cs
@@ -89,7 +89,7 @@ module _ {P F : Type 0} (T : Theory P F) (s : Shop P) (r : ℕ) (cs : List P) (n
   record_done n left rows there room patch i k e =
       let (d, f, _, is) = left_done T (new_document T (state_of s) r cs) left i in
       let (form, short) = had_room T (record { rows = rooms s; run = Some n }) (state_of s) r cs d f in
-      let h = held_at T s r in
+      let h = held_at s r in
       let long = long_at (rooms s) r (and_parts (all_long (rooms s)) (roomy T n) (tested (all_long (rooms s) && roomy T n) WrongRoom room)).0
       (omega (arith, length-map s.repositories room_of, s.four, ltb-true r 4 (tested (ltb r 4) (NoRepository r) there))) in
       let flat_is : length (flat (at (state_of s) r)) ≡ length (row_at s r) = ap (λ z. length (flat z)) h ∙ ap length (flat_grouped (row_at s r)) in
@@ -102,12 +102,12 @@ module _ {P F : Type 0} (T : Theory P F) (s : Shop P) (r : ℕ) (cs : List P) (n
 
       first : (a : Bool) (b : Result (Unit {0}) (Refusal F)) → Ok tt ≡ and_then (or_refused {F = F} a WrongCount) (λ _. b) → a ≡ true
       first true b e = refl
-      first false b e = absurd (not_refused e)
+      first false b e = absurd (ok_not_err e)
 
 -- record was refused, by what the repositories hold
 module _ {P F : Type 0} (T : Theory P F) (m : Memory) (s : State P) (r : ℕ) (cs : List P) where
   by_test : (b : Bool) (x y : Refusal F) → or_refused b y ≡ Err x → leb (number y) 5 ≡ false → leb (number x) 5 ≡ false
-  by_test true x y e f = absurd (not_refused e)
+  by_test true x y e f = absurd (ok_not_err e)
   by_test false x y e f = let z : y ≡ x = cc in subst (λ v. leb (number v) 5 ≡ false) z f
 
   from_state : (x : Refusal F) → new_document T s r cs ≡ Err x → leb (number x) 5 ≡ false
@@ -115,17 +115,17 @@ module _ {P F : Type 0} (T : Theory P F) (m : Memory) (s : State P) (r : ℕ) (c
       (λ (d, i, l). fault_of ((sequences T).apply cs d) l) (then_err (document T r h) _ x k)) (then_err (room_for T h (under (s.counter + 1) cs)) _ x g)) (then_err (a_name_left T s) _ x f)) (then_err (sound_at T s r) _ x e)
     where
       formless : sound_at T s r ≡ Err x → leb (number x) 5 ≡ false
-      formless a = ⊎_elim (λ b. by_test _ x (Torn r) b refl) (λ (u, b, c). absurd (not_refused c)) (then_err (or_refused {F = F} (sound T s.counter (at s r)) (Torn r)) _ x a)
+      formless a = ⊎_elim (λ b. by_test _ x (Torn r) b refl) (λ (u, b, c). absurd (ok_not_err c)) (then_err (or_refused {F = F} (sound T s.counter (at s r)) (Torn r)) _ x a)
 
       roomless : (h : History P) → room_for T h (under (s.counter + 1) cs) ≡ Err x → leb (number x) 5 ≡ false
       roomless h a = ⊎_elim (λ b. by_test _ x Full b refl) (λ (u, b, c). by_test _ x Overgrown c refl) (then_err (or_refused {F = F} (leb (length h + 1) most_patches && leb (length (flat h) + length cs) most_changes) Full) _ x a)
 
       part_of : {E : Type 0} (a : Result T.Doc E) → part {G = Refusal F} (λ d. d) (λ f. Torn r) a ≡ Err x → leb (number x) 5 ≡ false
-      part_of (Ok d) e = absurd (not_refused e)
+      part_of (Ok d) e = absurd (ok_not_err e)
       part_of (Err y) e = let z : Torn r ≡ x = cc in subst (λ v. leb (number v) 5 ≡ false) z refl
 
       fault_of : (a : Result T.Doc (AtStep F)) → part (λ d. d) Fault a ≡ Err x → leb (number x) 5 ≡ false
-      fault_of (Ok d) e = absurd (not_refused e)
+      fault_of (Ok d) e = absurd (ok_not_err e)
       fault_of (Err y) e = let z : Fault y ≡ x = cc in subst (λ v. leb (number v) 5 ≡ false) z refl
 
   pub record_refused : (x : Refusal F) (was left : List ℕ) → Ok tt ≡ in_shop T r → Ok tt ≡ enough T m → Ok tt ≡ a_patch T cs → LeftInRun T (new_document T s r cs) (Err x) left

@@ -1,6 +1,7 @@
 -- A call of a shop, as its definition answers it.
 use Rattle.std.proofs.Common.{◌≡◌, ℕ, List, map, set, Ok, Err, Result, sym, refl, ap, ◌∙◌, subst}
 use Rattle.std.proofs.lemmas.List.{map-set}
+use Rattle.std.specs.Result.{MatchResult, IsErrAnd}
 use Rattle.kinds.specs.Theory.{Theory}
 use Rattle.kinds.specs.Parts.{part}
 use Rattle.kinds.specs.Sequences.{and_then}
@@ -13,6 +14,7 @@ use Rattle.shop.specs.Calls.{Memory}
 use Rattle.shop.specs.Held.{rooms, state_of}
 use Rattle.shop.specs.Reached.{Call, answer, after, called, Reached}
 use Rattle.calls.specs.Untouched.{Untouched}
+use Rattle.calls.specs.Leaves.{Leaves}
 
 -- a refusal is that of all that follows
 pub refused_so : {A B E : Type 0} {r : Result A E} {x : E} (f : A → Result B E) → r ≡ Err x → and_then r f ≡ Err x
@@ -21,6 +23,13 @@ refused_so f e = ap (λ z. and_then z f) e
 -- the exit of a `?`
 pub exit_is : {A E : Type 0} {r : Result A E} (x : E) → (y : E) × (r ≡ Err y) × (y ≡ x) → r ≡ Err x
 exit_is x p = p.1 ∙ ap Err p.2
+
+-- a call whose error was mapped
+pub mapped : {A E G : Type 0} (f : E → G) (r : Result A E) (q : Result A G) (P : E → G → Type 0) → ((e : E) (x : G) → P e x → x ≡ f e)
+    → MatchResult r (λ a. q ≡ Ok a) (λ e. IsErrAnd q (P e)) → q ≡ part (λ a. a) f r
+mapped f (Ok a) q P told h = h
+mapped f (Err e) (Ok a) P told h = absurd h
+mapped f (Err e) (Err x) P told h = ap Err (told e x h)
 
 -- the histories, where one row was written
 pub history_written : {P : Type 0} (rows was : List (List (Named P))) (r : ℕ) (row : List (Named P)) (h : History P) → rows ≡ set was r row → grouped row ≡ h
@@ -35,10 +44,7 @@ module _ {P F : Type 0} (T : Theory P F) (m : Memory) (s : Shop P) (c : Call P) 
   -- the call answers q and leaves the shop t, as is defined
   pub record Answers (q : Result ℕ (Refusal F)) (t : Shop P) : Type 0 where
     pub answer : q ≡ part (λ x. x.1) (λ x. x) defined
-    pub state : state_of t ≡ after T (state_of s) defined
-    pub rooms : rooms t ≡ rooms s
-    pub reached : Reached T (state_of s) → Reached T (state_of t)
-    pub untouched : Untouched q s t
+    pub leaves : Leaves T m s c q t
 
   reaches : (t : Shop P) → state_of t ≡ after T (state_of s) defined → Reached T (state_of s) → Reached T (state_of t)
   reaches t e l = subst (Reached T) (sym e) (called l m c)
@@ -47,10 +53,10 @@ module _ {P F : Type 0} (T : Theory P F) (m : Memory) (s : Shop P) (c : Call P) 
   pub refused : (q : Result ℕ (Refusal F)) (x : Refusal F) → q ≡ Err x → defined ≡ Err x → Answers q s
   refused q x e f =
       let i : state_of s ≡ after T (state_of s) defined = ap (after T (state_of s)) (sym f) in
-      record { answer = e ∙ ap (part (λ x. x.1) (λ x. x)) (sym f); state = i; rooms = refl; reached = reaches s i; untouched = subst (λ z. Untouched z s s) (sym e) refl }
+      record { answer = e ∙ ap (part (λ x. x.1) (λ x. x)) (sym f); leaves = record { state = i; rooms = refl; untouched = subst (λ z. Untouched z s s) (sym e) refl; reached = reaches s i } }
 
   -- it is done
   pub done : (a : ℕ) (t : Shop P) (u : State P) (b : ℕ) → defined ≡ Ok (u, b) → a ≡ b → state_of t ≡ u → rooms t ≡ rooms s → Answers (Ok a) t
   done a t u b f e g h =
       let i : state_of t ≡ after T (state_of s) defined = g ∙ ap (after T (state_of s)) (sym f) in
-      record { answer = ap Ok e ∙ ap (part (λ x. x.1) (λ x. x)) (sym f); state = i; rooms = h; reached = reaches t i; untouched = tt }
+      record { answer = ap Ok e ∙ ap (part (λ x. x.1) (λ x. x)) (sym f); leaves = record { state = i; rooms = h; untouched = tt; reached = reaches t i } }

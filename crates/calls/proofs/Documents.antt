@@ -21,13 +21,14 @@ use Rattle.forms.proofs.Growing.{growths_grouped}
 use Rattle.forms.proofs.SoundParts.{sound_parts}
 use Rattle.shop.specs.declared.refusal.Refusal.{Refusal}
 use Rattle.shop.specs.declared.refusal.Refusal.TheVariants.{Fault, Torn}
+use Rattle.shop.specs.Refusals.{failure_told}
 use Rattle.shop.specs.Calls.{document}
-use Rattle.calls.specs.Run.{failure_told, LeftInRun}
+use Rattle.calls.specs.Run.{LeftInRun}
 
 -- a document that is reached is the one without bounds too
 the_ideal : {D F : Type 0} (r : Result D F) (e : D) → done_or_fault r ≡ Ok e → r ≡ Ok e
 the_ideal (Ok d) e h = cc
-the_ideal (Err f) e h = absurd (let z : ◌≡◌ {A = ℕ} 0 1 = cc in omega arith)
+the_ideal (Err f) e h = cc
 
 module _ {P F : Type 0} (T : Theory P F) where
   abbrev N : Theory (Named P) F
@@ -84,7 +85,7 @@ module _ {P F : Type 0} (T : Theory P F) where
         on (Err x) f e fit is out = at (replay (patches T) (grouped row)) refl
           where
             at : (a : Result T.Doc (AtStep (AtStep F))) → replay (patches T) (grouped row) ≡ a → LeftInRun T (part (λ d. d) (λ y. Torn number) a) told left
-            at (Ok d) k = absurd (let z : ◌≡◌ {A = ℕ} 0 1 = cc (ap done_or_fault (other d k), out) in omega arith)
+            at (Ok d) k = cc (ap done_or_fault (other d k), out)
             at (Err y) k = f
 
     -- what applying the changes of a patch leaves
@@ -98,6 +99,6 @@ module _ {P F : Type 0} (T : Theory P F) where
         on : (a : Result T.Doc (AtStep F)) (q : Result (Unit {0}) (Failure (AtStep F))) (e : T.Doc) → T.fits e → left ≡ T.encode e → done_or_fault a ≡ holding q e
             → LeftInRun T (part (λ e. e) Fault a) (part (λ u. u) failure_told q) left
         on (Ok e') (Ok u) e fits now out = let z : e ≡ e' = cc in (refl, subst (λ x. T.fits x) z fits, now ∙ ap T.encode z)
-        on (Ok e') (Err x) e fits now out = absurd (let z : ◌≡◌ {A = ℕ} 0 1 = cc in omega arith)
-        on (Err y) (Ok u) e fits now out = absurd (let z : ◌≡◌ {A = ℕ} 0 1 = cc in omega arith)
+        on (Ok e') (Err x) e fits now out = cc
+        on (Err y) (Ok u) e fits now out = cc
         on (Err y) (Err x) e fits now out = let z : Faulty y ≡ x = cc in ap (λ v. Err (failure_told v)) (sym z)

@@ -3,34 +3,27 @@ use Rattle.std.proofs.Common.{◌≡◌, ℕ, List, ◌++◌, length, Ok, Err, R
 use Rattle.kinds.specs.Theory.{Theory}
 use Rattle.kinds.specs.Laws.{Lawful}
 use Rattle.histories.specs.declared.named.Named.{Named}
-use Rattle.histories.proofs.Stops.{the_ok}
+use Rattle.histories.proofs.Stops.{ok_not_err, the_ok}
 use Rattle.histories.specs.Flat.{flat_of, flat}
-use Rattle.forms.specs.declared.find.Place.{Place}
+use Rattle.rows.specs.declared.place.Place.{Place}
 use Rattle.shop.specs.declared.refusal.Refusal.{Refusal}
 use Rattle.shop.specs.declared.shop.Shop.{Shop}
 use Rattle.shop.specs.State.{History}
 use Rattle.shop.specs.Calls.{taken_out}
 use Rattle.shop.specs.Held.{state_of}
-use Rattle.shop.specs.Reached.{Call, answer}
 use Rattle.calls.specs.TakeOut.{TakenInRow}
-use Rattle.calls.proofs.SoundRow.{not_refused}
-use Rattle.calls.proofs.Called.{Answers, refused}
 use Rattle.calls.proofs.Remaining.{Remains, remains}
-use Rattle.calls.proofs.InWork.{handed}
+use Rattle.calls.specs.Handed.{with_work}
+
+-- nothing was taken out
+pub not_taken : {P F : Type 0} (out : Result (History P × Named (List P)) (Refusal F)) (x : Refusal F) (left : List (Named P)) → TakenInRow out (Err x) left → out ≡ Err x
+not_taken (Ok y) x left t = absurd (ok_not_err (sym t.0))
+not_taken (Err y) x left t = let z : y ≡ x = cc in ap Err z
 
 module _ {P F : Type 0} (T : Theory P F) (s : Shop P) (work left : List (Named P)) (r n : ℕ) where
   -- what was to be taken out
   abbrev out : Result (History P × Named (List P)) (Refusal F)
-  out = taken_out T (handed T s work r n) (state_of s) r n
-
-  -- it was refused, and so is a call that begins with it
-  pub not_taken : (c : Call P) → ((x : Refusal F) → out ≡ Err x → answer T (handed T s work r n) (state_of s) c ≡ Err x) → (q : Result ℕ (Refusal F)) (x : Refusal F) → q ≡ Err x
-      → TakenInRow out (Err x) left → Answers T (handed T s work r n) s c q s
-  not_taken c begins q x e t = refused T (handed T s work r n) s c q x e (begins x (on out t))
-    where
-      on : (a : Result (History P × Named (List P)) (Refusal F)) → TakenInRow a (Err x) left → a ≡ Err x
-      on (Ok y) t = absurd (not_refused (sym t.0))
-      on (Err y) t = let z : y ≡ x = cc in ap Err z
+  out = taken_out T (with_work s work) (state_of s) r n
 
   -- the history h is left, and the patch `last`
   pub record InRow (place : Place) : Type 0 where
@@ -41,13 +34,13 @@ module _ {P F : Type 0} (T : Theory P F) (s : Shop P) (work left : List (Named P
     pub counts : place.count ≡ length last.changes
     pub free : List (Named P)
     pub row : left ≡ flat h ++ (flat_of last ++ free)
-    pub facts : Remains T (handed T s work r n) (state_of s) r h last
+    pub facts : Remains T (with_work s work) (state_of s) r h last
 
   pub in_row : Lawful T → (place : Place) → TakenInRow out (Ok place) left → InRow place
   in_row L place t = on out refl t
     where
       on : (a : Result (History P × Named (List P)) (Refusal F)) → out ≡ a → TakenInRow a (Ok place) left → InRow place
-      on (Err y) e t = absurd (not_refused t)
+      on (Err y) e t = absurd (ok_not_err t)
       on (Ok (h, last)) e t =
           let same = the_ok t.0 in
           record {
@@ -58,5 +51,5 @@ module _ {P F : Type 0} (T : Theory P F) (s : Shop P) (work left : List (Named P
             counts = ap (λ z. z.count) same;
             free = t.1.0;
             row = t.1.1;
-            facts = remains T L (handed T s work r n) (state_of s) r n (h, last) e;
+            facts = remains T L (with_work s work) (state_of s) r n (h, last) e;
           }

@@ -2,7 +2,6 @@ mod SoundRow
 mod LongRows
 mod OneMore
 mod Documents
-mod Shown
 mod Recorded
 mod Appended
 mod Called

@@ -1,17 +1,17 @@
 -- Whether there is room for one patch more.
-use Rattle.std.proofs.Common.{◌≡◌, ℕ, ◌+◌, ◌<◌, ◌≤◌, min, Bool, true, false, ◌&&◌, leb, List, length, Ok, Err, refl, ap, arith}
-use Rattle.std.proofs.lemmas.Bool.{and_from, and_left, and_right, le-leb, lt-leb}
+use Rattle.std.proofs.Common.{◌≡◌, ℕ, ◌+◌, min, Bool, true, false, ◌&&◌, ltb, leb, List, length, refl, ap, arith}
+use Rattle.std.proofs.lemmas.Bool.Decides.{nat_tests}
 use Rattle.kinds.specs.Theory.{Theory}
 use Rattle.kinds.specs.Bounded.{saturated, largest}
 use Rattle.kinds.specs.Laws.{most}
-use Rattle.kinds.specs.Sequences.{growths}
+use Rattle.kinds.specs.Sequences.{and_then, growths}
 use Rattle.histories.specs.declared.named.Named.{Named}
 use Rattle.histories.specs.Named.{patches}
 use Rattle.histories.specs.Flat.{flat}
 use Rattle.forms.specs.Form.{grouped, most_patches, most_changes}
 use Rattle.forms.proofs.Grouping.{flat_grouped}
 use Rattle.shop.specs.declared.refusal.Refusal.TheVariants.{Full, Overgrown}
-use Rattle.shop.specs.Calls.{room_for}
+use Rattle.shop.specs.Calls.{or_refused, room_for}
 
 module _ {P F : Type 0} (T : Theory P F) (row : List (Named P)) (p : Named (List P)) where
   abbrev few : Bool
@@ -26,21 +26,22 @@ module _ {P F : Type 0} (T : Theory P F) (row : List (Named P)) (p : Named (List
   long : length (flat (grouped row)) ≡ length row
   long = ap length (flat_grouped row)
 
-  full : (few && short) ≡ false → Err Full ≡ room_for T (grouped row) p
-  full e = rw e refl
+  -- the numbers that are compared
+  module _ (m n : ℕ) (i : m ≡ length (grouped row)) (j : n ≡ min (length row + length p.changes) 18446744073709551615) where
+    pub few_is : ltb m most_patches ≡ few
+    few_is = grind (arith, nat_tests)
 
-  pub many_patches : most_patches ≤ length (grouped row) → Err Full ≡ room_for T (grouped row) p
-  many_patches k = full (and_left few short (lt-leb (length (grouped row) + 1) most_patches (omega arith)))
+    pub short_is : leb n most_changes ≡ short
+    short_is = let l = long in grind (arith, nat_tests)
 
-  pub many_changes : (r : ℕ) → r ≡ min (length row + length p.changes) 18446744073709551615 → most_changes < r → Err Full ≡ room_for T (grouped row) p
-  many_changes r e k = full (and_right few short (lt-leb (length (flat (grouped row)) + length p.changes) most_changes (let l = long in omega arith)))
+  pub light_is : (m n o : ℕ) → m ≡ saturated (growths (patches T) (grouped row)) → n ≡ saturated ((patches T).growth p) → o ≡ min (m + n) largest → leb o most ≡ light
+  light_is m n o i j k = grind (arith, nat_tests)
 
-  module _ (m n : ℕ) (few-patches : length (grouped row) < most_patches) (i : m ≡ saturated (growths (patches T) (grouped row))) (j : n ≡ saturated ((patches T).growth p)) where
-    roomy : length row + length p.changes ≤ most_changes → (few && short) ≡ true
-    roomy k = and_from few short (le-leb (length (grouped row) + 1) most_patches (omega arith)) (le-leb (length (flat (grouped row)) + length p.changes) most_changes (let l = long in omega arith))
-
-    pub much_growth : length row + length p.changes ≤ most_changes → (r : ℕ) → r ≡ min (m + n) largest → most < r → Err Overgrown ≡ room_for T (grouped row) p
-    much_growth k r e o = rw (roomy k, lt-leb (growths (patches T) (grouped row) + (patches T).growth p) most (omega arith)) refl
-
-    pub room_left : length row + length p.changes ≤ most_changes → (r : ℕ) → r ≡ min (m + n) largest → r ≤ most → Ok tt ≡ room_for T (grouped row) p
-    room_left k r e o = rw (roomy k, le-leb (growths (patches T) (grouped row) + (patches T).growth p) most (omega arith)) refl
+  -- room is left if the three tests hold
+  pub by_tests : (a b c : Bool) → a ≡ few → b ≡ short → c ≡ light → room_for T (grouped row) p ≡ and_then (or_refused {F = F} a Full) (λ _. and_then (or_refused {F = F} b Full) (λ _. or_refused c Overgrown))
+  by_tests a b c e f g = rw (e, f, g) (on few)
+    where
+      on : (a : Bool) → and_then (or_refused {F = F} (a && short) Full) (λ _. or_refused light Overgrown)
+          ≡ and_then (or_refused {F = F} a Full) (λ _. and_then (or_refused {F = F} short Full) (λ _. or_refused light Overgrown))
+      on true = refl
+      on false = refl

@@ -1,5 +1,5 @@
 -- The document that record makes, test by test.
-use Rattle.std.proofs.Common.{◌≡◌, ℕ, ◌+◌, ◌≤◌, Bool, true, false, ◌&&◌, ltb, leb, List, length, Ok, Err, Result, sym, refl, ap, ◌∙◌, subst, arith}
+use Rattle.std.proofs.Common.{◌≡◌, ℕ, ◌+◌, ◌≤◌, Bool, true, false, ◌&&◌, ltb, leb, List, length, Ok, Err, Result, sym, refl, ap, subst, arith}
 use Rattle.std.proofs.lemmas.Bool.{leb-true}
 use Rattle.kinds.specs.Theory.{Theory}
 use Rattle.kinds.specs.Bounded.{roomy}
@@ -13,21 +13,22 @@ use Rattle.histories.specs.History.{replay}
 use Rattle.histories.specs.Proofs.NamedLaws.{patches_lawful}
 use Rattle.histories.specs.Flat.{flat}
 use Rattle.forms.specs.Form.{grouped, sound, most_patches, most_changes}
+use Rattle.histories.proofs.Stops.{ok_not_err}
 use Rattle.shop.specs.declared.refusal.Refusal.{Refusal}
 use Rattle.shop.specs.declared.refusal.Refusal.TheVariants.{Fault, Full, Overgrown, Torn}
 use Rattle.shop.specs.declared.shop.Shop.{Shop}
 use Rattle.shop.specs.Calls.{or_refused, sound_at, a_name_left, room_for, document}
 use Rattle.shop.specs.Held.{row_at, state_of}
 use Rattle.calls.specs.Run.{LeftInRun, new_document}
-use Rattle.calls.proofs.SoundRow.{tested, no_name, a_name, unsound, is_sound, not_refused}
+use Rattle.calls.proofs.SoundRow.{tested, a_name, formed as formed_at}
 
 -- what is left in a run, behind an answer
 pub left_done : {P F : Type 0} (T : Theory P F) (a : Result T.Doc (Refusal F)) (left : List ℕ) → LeftInRun T a (Ok tt) left → (d : T.Doc) × (a ≡ Ok d) × T.fits d × (left ≡ T.encode d)
 left_done T (Ok d) left (_, f, e) = (d, refl, f, e)
-left_done T (Err x) left e = absurd (not_refused e)
+left_done T (Err x) left e = absurd (ok_not_err e)
 
 pub left_refused : {P F : Type 0} (T : Theory P F) (a : Result T.Doc (Refusal F)) (x : Refusal F) (left : List ℕ) → LeftInRun T a (Err x) left → a ≡ Err x
-left_refused T (Ok d) x left (e, _, _) = absurd (not_refused (sym e))
+left_refused T (Ok d) x left (e, _, _) = absurd (ok_not_err (sym e))
 left_refused T (Err y) x left e = let z : x ≡ y = cc in ap Err (sym z)
 
 -- the row is that of repository r, read from the shop
@@ -38,40 +39,21 @@ module _ {P F : Type 0} (T : Theory P F) (s : Shop P) (r : ℕ) (cs : List P) (r
   abbrev p : Named (List P)
   p = under (s.counter + 1) cs
 
-  abbrev Stops : Refusal F → Type 0
-  Stops x = new_document T (state_of s) r cs ≡ Err x
-
-  -- a part of the call that was refused
-  pub stops : (x y : Refusal F) (q : Result ℕ (Refusal F)) (left : List ℕ) → q ≡ Err y → y ≡ x → Stops x → LeftInRun T (new_document T (state_of s) r cs) (part (λ n. tt) (λ x. x) q) left
-  stops x y q left e i f = rw (e, i, f) refl
-
-  pub no_form : (x : Refusal F) → Err x ≡ or_refused (sound T s.counter h) (Torn r) → Stops x
-  no_form x e = rw (unsound T s r x (rw read at e)) refl
-
-  module _ (form : Ok tt ≡ or_refused {F = F} (sound T s.counter h) (Torn r)) where
+  module _ (form : Ok h ≡ sound_at T (state_of s) r) where
     history : sound_at T (state_of s) r ≡ Ok h
-    history = (is_sound T s r (rw read at form)).1 ∙ ap (λ z. Ok (grouped z)) (sym read)
+    history = sym form
 
     pub formed : sound T s.counter h ≡ true
-    formed = tested (sound T s.counter h) (Torn r) form
+    formed = subst (λ z. sound T s.counter (grouped z) ≡ true) (sym read) (formed_at T s r h form)
 
     abbrev named : Result (Unit {0}) (Refusal F) → Result ℕ (Refusal F)
     named = part (λ _. s.counter + 1) (λ x. x)
-
-    pub nameless : (x : Refusal F) → Err x ≡ named (a_name_left T (state_of s)) → Stops x
-    nameless x e = rw (history, no_name (ltb s.counter 255) (s.counter + 1) x e) refl
 
     module _ (n : ℕ) (given : Ok n ≡ named (a_name_left T (state_of s))) where
       name : a_name_left T (state_of s) ≡ Ok tt
       name = (a_name (ltb s.counter 255) (s.counter + 1) n given).0
 
-      pub no_room : (x : Refusal F) → Err x ≡ room_for T h p → Stops x
-      no_room x e = rw (history, name, sym e) refl
-
       module _ (room : Ok tt ≡ room_for T h p) where
-        pub no_document : (x : Refusal F) → document T r h ≡ Err x → Stops x
-        no_document x e = rw (history, name, sym room, e) refl
-
         with_document : (d : T.Doc) → document T r h ≡ Ok d → new_document T (state_of s) r cs ≡ part (λ e. e) Fault ((sequences T).apply cs d)
         with_document d e = rw (history, name, sym room, e) refl
 
@@ -85,11 +67,11 @@ module _ {P F : Type 0} (T : Theory P F) (s : Shop P) (r : ℕ) (cs : List P) (r
           where
             replayed : {E : Type 0} (a : Result T.Doc E) → part {G = Refusal F} (λ d. d) (λ f. Torn r) a ≡ Ok d → a ≡ Ok d
             replayed (Ok c) i = cc
-            replayed (Err y) i = absurd (not_refused (sym i))
+            replayed (Err y) i = absurd (ok_not_err (sym i))
 
             second : (a b : Bool) → Ok tt ≡ and_then (or_refused {F = F} a Full) (λ _. or_refused b Overgrown) → b ≡ true
             second true b i = tested b Overgrown i
-            second false b i = absurd (not_refused i)
+            second false b i = absurd (ok_not_err i)
 
         -- the changes were applied to the document of the history
         pub applied : Lawful T → (was run left : List ℕ) (q : Result (Unit {0}) (Refusal F)) → roomy T (length was) ≡ true → LeftInRun T (document T r h) (Ok tt) run → length run ≡ length was

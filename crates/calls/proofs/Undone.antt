@@ -12,7 +12,7 @@ use Rattle.histories.specs.declared.named.Named.{Named}
 use Rattle.histories.specs.Named.{under, named, patches}
 use Rattle.histories.specs.Flat.{flat_of, flat}
 use Rattle.histories.proofs.Flattening.{named_inverses}
-use Rattle.forms.specs.declared.find.Place.{Place}
+use Rattle.rows.specs.declared.place.Place.{Place}
 use Rattle.forms.specs.Form.{grouped, sound}
 use Rattle.forms.proofs.Grouping.{flat_grouped, grouped_more}
 use Rattle.forms.proofs.Growing.{growths_grouped}
@@ -28,10 +28,10 @@ use Rattle.shop.proofs.Chains.{then_go}
 use Rattle.shop.proofs.Recording.{has_room}
 use Rattle.memory.specs.Write.{first, room_at, appended, appended_at}
 use Rattle.memory.proofs.Appending.{first_is}
-use Rattle.calls.proofs.SoundRow.{no_name, a_name, held_at}
+use Rattle.calls.proofs.SoundRow.{a_name, held_at}
 use Rattle.calls.proofs.LongRows.{row_long}
 use Rattle.calls.proofs.Called.{Answers, refused_so, history_written, refused, done}
-use Rattle.calls.proofs.InWork.{handed}
+use Rattle.calls.specs.Handed.{with_work}
 use Rattle.calls.proofs.FromWork.{InRow}
 
 -- the changes of a patch, without its name
@@ -45,11 +45,6 @@ growths_of T p some = growths_grouped T (flat_of p) ∙ ap (growths (patches T))
 
 module _ {P F : Type 0} (T : Theory P F) (s : Shop P) (work left : List (Named P)) (r n : ℕ) where
   module _ (place : Place) (i : InRow T s work left r n place) where
-    -- no name is left
-    pub unnamable : (q : Result ℕ (Refusal F)) (x : Refusal F) → q ≡ Err x → Err x ≡ part (λ _. s.counter + 1) (λ x. x) (or_refused (ltb s.counter 255) NoName)
-        → Answers T (handed T s work r n) s (Undo r n) q s
-    unnamable q x e f = refused T (handed T s work r n) s (Undo r n) q x e (then_go _ i.is (refused_so _ (no_name (ltb s.counter 255) (s.counter + 1) x f)))
-
     -- the inverse, under the next name
     abbrev inverse : Named (List P)
     inverse = under (s.counter + 1) (inverses T i.last.changes)
@@ -83,14 +78,14 @@ module _ {P F : Type 0} (T : Theory P F) (s : Shop P) (work left : List (Named P
           ∙ ap saturated (growths_of T back inverse_some))))
 
       -- the repository is full
-      pub no_room : (q : Result ℕ (Refusal F)) (x : Refusal F) → q ≡ Err x → Tested (Err x) → Answers T (handed T s work r n) s (Undo r n) q s
+      pub no_room : (q : Result ℕ (Refusal F)) (x : Refusal F) → q ≡ Err x → Tested (Err x) → Answers T (with_work s work) s (Undo r n) q s
       no_room q x e h =
-          refused T (handed T s work r n) s (Undo r n) q x e
-          (then_go _ i.is (then_go _ next.0 (refused_so _ (ap (λ z. room_for T z inverse) (held_at T s r) ∙ tested_is (Err x) h))))
+          refused T (with_work s work) s (Undo r n) q x e
+          (then_go _ i.is (then_go _ next.0 (refused_so _ (ap (λ z. room_for T z inverse) (held_at s r) ∙ tested_is (Err x) h))))
 
       -- the inverse is appended
       pub appended_back : Tested (Ok tt) → (t : Shop P) → rows_of t ≡ appended_at s r (map (under fresh) (inverses T (map (λ c. c.changes) (first place.count (drop place.start left)))))
-          → rooms t ≡ rooms s → t.counter ≡ fresh → Answers T (handed T s work r n) s (Undo r n) (Ok fresh) t
+          → rooms t ≡ rooms s → t.counter ≡ fresh → Answers T (with_work s work) s (Undo r n) (Ok fresh) t
       appended_back h t rows same counter =
           let tested = tested_is (Ok tt) h in
           let row = row_at s r in
@@ -103,9 +98,9 @@ module _ {P F : Type 0} (T : Theory P F) (s : Shop P) (work left : List (Named P
           let written : rows_of t ≡ set (rows_of s) r (row ++ flat_of inverse) =
           rows ∙ ap (λ z. set (rows_of s) r (appended (room_at s r) row z)) entries
           ∙ ap (λ z. set (rows_of s) r (row ++ cond z (flat_of inverse) [])) (le-leb (length row + length (flat_of inverse)) (room_at s r) (omega arith)) in
-          let new = numbered_fresh s.counter (grouped row) (s.counter + 1) (sound_parts T s.counter (grouped row) (subst (λ z. sound T s.counter z ≡ true) (held_at T s r) i.facts.formed)).numbers (omega arith) in
+          let new = numbered_fresh s.counter (grouped row) (s.counter + 1) (sound_parts T s.counter (grouped row) (subst (λ z. sound T s.counter z ≡ true) (held_at s r) i.facts.formed)).numbers (omega arith) in
           let histories = history_written (rows_of t) (rows_of s) r (row ++ flat_of inverse) (at (state_of s) r ++ inverse ∷ []) written
-          (grouped_more row inverse inverse_some new ∙ ap (λ z. z ++ inverse ∷ []) (sym (held_at T s r))) in
+          (grouped_more row inverse inverse_some new ∙ ap (λ z. z ++ inverse ∷ []) (sym (held_at s r))) in
           let state : state_of t ≡ with_name (with_history (state_of s) r (at (state_of s) r ++ inverse ∷ [])) = λ j. record { histories = histories j; counter = (counter ∙ next.1) j } in
-          done T (handed T s work r n) s (Undo r n) fresh t (with_name (with_history (state_of s) r (at (state_of s) r ++ inverse ∷ []))) (s.counter + 1)
-          (then_go _ i.is (then_go _ next.0 (then_go _ (ap (λ z. room_for T z inverse) (held_at T s r) ∙ tested) refl))) next.1 state same
+          done T (with_work s work) s (Undo r n) fresh t (with_name (with_history (state_of s) r (at (state_of s) r ++ inverse ∷ []))) (s.counter + 1)
+          (then_go _ i.is (then_go _ next.0 (then_go _ (ap (λ z. room_for T z inverse) (held_at s r) ∙ tested) refl))) next.1 state same

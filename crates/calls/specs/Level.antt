@@ -1,5 +1,6 @@
 -- Whether two repositories hold the same names.
-use Rattle.std.specs.Prelude.{ℕ, Bool, true, ◌&&◌, [], ◌∷◌, Ok, Result}
+use Rattle.std.specs.Prelude.{ℕ, Bool, ◌&&◌, Ok, Result}
+use Rattle.std.specs.List.{list_all}
 use Rattle.kinds.specs.Theory.{Theory}
 use Rattle.histories.specs.History.{holds}
 use Rattle.shop.specs.declared.refusal.Refusal.{Refusal}
@@ -9,8 +10,7 @@ use Rattle.shop.specs.Calls.{◌>>◌, in_shop}
 module _ {P : Type 0} where
   -- Each name of the one history is held by the other.
   abbrev pub all_held : History P → History P → Bool
-  all_held [] k = true
-  all_held (p ∷ h) k = holds (λ w. w.name) k p.name && all_held h k
+  all_held h k = list_all (λ p. holds (λ w. w.name) k p.name) h
 
   -- ... and the other way round.
   abbrev pub same_names : History P → History P → Bool

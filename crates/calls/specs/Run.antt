@@ -1,23 +1,14 @@
 -- What a call leaves in the document run.
 use Rattle.std.specs.Prelude.{◌≡◌, ℕ, ◌+◌, cond, List, length, replicate, Ok, Err, Result, nat_le}
-use Rattle.kinds.specs.declared.answers.Failure.{Failure}
-use Rattle.kinds.specs.declared.answers.Failure.TheVariants.{Length, Overfull, Fault as Faulty}
-use Rattle.kinds.specs.declared.steps.AtStep.{AtStep}
 use Rattle.kinds.specs.Theory.{Theory}
 use Rattle.kinds.specs.Parts.{part}
 use Rattle.kinds.specs.Sequences.{sequences}
 use Rattle.histories.specs.Named.{under}
 use Rattle.shop.specs.declared.refusal.Refusal.{Refusal}
-use Rattle.shop.specs.declared.refusal.Refusal.TheVariants.{Fault, WrongRoom, Overgrown}
+use Rattle.shop.specs.declared.refusal.Refusal.TheVariants.{Fault}
 use Rattle.shop.specs.Refusals.{number}
 use Rattle.shop.specs.State.{State}
 use Rattle.shop.specs.Calls.{◌>>=◌, ◌>>◌, sound_at, a_name_left, room_for, document}
-
--- What a change that fails to apply is told as. Where there is room for the document, it is always a fault.
-abbrev pub failure_told : {F : Type 0} → Failure (AtStep F) → Refusal F
-failure_told Length = WrongRoom
-failure_told Overfull = Overgrown
-failure_told (Faulty f) = Fault f
 
 module _ {P F : Type 0} (T : Theory P F) where
   -- The new document; zeros after a refusal from what the repositories hold; what it held after a refusal from what was handed in.

@@ -2,7 +2,7 @@
 use Rattle.std.specs.Prelude.{◌≡◌, List, ◌++◌, length, Ok, Err, Result}
 use Rattle.histories.specs.declared.named.Named.{Named}
 use Rattle.histories.specs.Flat.{flat_of, flat}
-use Rattle.forms.specs.declared.find.Place.{Place}
+use Rattle.rows.specs.declared.place.Place.{Place}
 use Rattle.shop.specs.declared.refusal.Refusal.{Refusal}
 use Rattle.shop.specs.State.{History}
 

@@ -1,5 +1,5 @@
 // The document of a history, in a run of words.
-ghost use Rattle.std.specs.Prelude.{◌≡◌, ℕ, ◌+◌, ◌≤◌, true, length};
+ghost use Rattle.std.specs.Prelude.{◌≡◌, ℕ, ◌+◌, ◌≤◌, true, length, replicate, MatchResult};
 ghost use Rattle.kinds.specs.Bounded.{roomy};
 ghost use Rattle.kinds.specs.Laws.{most};
 ghost use Rattle.kinds.specs.Parts.{part};
@@ -7,12 +7,10 @@ ghost use Rattle.kinds.specs.Sequences.{growths, sequences};
 ghost use Rattle.forms.specs.Form.{grouped, sound};
 ghost use Rattle.shop.specs.declared.refusal.Refusal.TheVariants.{Fault};
 ghost use Rattle.shop.specs.Calls.{document as document_of};
-ghost use Rattle.calls.specs.Run.{failure_told, LeftInRun};
+ghost use Rattle.calls.specs.Run.{LeftInRun};
 
 use histories::named::{Labelled, Named};
-use kinds::answers::Failure;
 use kinds::kind::Kind;
-use kinds::steps::AtStep;
 use rows::replay::{replay, replay_fresh};
 use shop::refusal::Refusal;
 
@@ -25,21 +23,7 @@ pub(crate) fn document<K: Kind>(
     ensures { (counter : ℕ) → sound K.Kind.theory counter (grouped history.now) ≡ true → roomy K.Kind.theory (length run.old) ≡ true
         → LeftInRun K.Kind.theory (document_of K.Kind.theory number (grouped history.now)) result run.new }
 {
-    match replay_fresh::<Labelled<K>>(history, run) {
-        Ok(()) => Ok(()),
-        Err(_) => Err(Refusal::Torn(number)),
-    }
-}
-
-// What a change that fails to apply is told as.
-fn told_as<F>(failure: Failure<AtStep<F>>) -> Refusal<F>
-    ensures { result ≡ failure_told failure }
-{
-    match failure {
-        Failure::Length => Refusal::WrongRoom,
-        Failure::Overfull => Refusal::Overgrown,
-        Failure::Fault(fault) => Refusal::Fault(fault),
-    }
+    replay_fresh::<Labelled<K>>(history, run).map_err(|_| Refusal::Torn(number))
 }
 
 // Applies the changes of a new patch to the document in the run, for which there is room. A change that does not apply
@@ -52,8 +36,20 @@ pub(crate) fn apply_changes<K: Kind>(
         → K.Kind.theory.size d + growths K.Kind.theory changes.now ≤ most
         → LeftInRun K.Kind.theory (part (λ e. e) Fault ((sequences K.Kind.theory).apply changes.now d)) result run.new }
 {
-    match replay::<K>(changes, run) {
-        Ok(()) => Ok(()),
-        Err(failure) => Err(told_as(failure)),
+    Ok(replay::<K>(changes, run)?)
+}
+
+// Zeros in the run, where the answer is a refusal.
+// Not `inspect_err`: the prover does not know what a closure that is handed on wrote to the run.
+pub(crate) fn zeros_if_refused<A, F>(
+    answer: Result<A, Refusal<F>>,
+    run: &mut [u32],
+) -> Result<A, Refusal<F>>
+    ensures answer { result ≡ answer }
+    ensures run { MatchResult answer (λ _. run.new ≡ run.old) (λ _. run.new ≡ replicate (length run.old) 0) }
+{
+    if answer.is_err() {
+        run.fill(0);
     }
+    answer
 }

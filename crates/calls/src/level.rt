@@ -11,7 +11,6 @@ use crate::checks::in_shop;
 use forms::find::holds;
 use histories::named::Named;
 use kinds::kind::Kind;
-use memory::read::row;
 use shop::refusal::Refusal;
 use shop::shop::Shop;
 
@@ -19,11 +18,7 @@ use shop::shop::Shop;
 fn all_held<K: Kind>(one: &[Named<K::Patch>], other: &[Named<K::Patch>]) -> bool
     ensures { result ≡ all_held (grouped one.now) (grouped other.now) }
 {
-    let n = one.len();
-    if n == 0 {
-        return true;
-    }
-    holds::<K>(other, one[0].name) && all_held::<K>(&one[1..n], other)
+    one.iter().all(|change| holds::<K>(other, change.name))
 }
 
 // Whether the two rows hold the same names.
@@ -45,5 +40,5 @@ pub fn level<K: Kind>(
 {
     in_shop::<K>(first)?;
     in_shop::<K>(second)?;
-    Ok(same_names::<K>(row(shop, first), row(shop, second)))
+    Ok(same_names::<K>(shop.row(first), shop.row(second)))
 }

@@ -1,5 +1,6 @@
 // The calls of a shop, over any kind. Each is one chain of tests, in the order of its definition in
-// crates/shop/specs/Calls.antt, and then one change of one repository.
+// crates/shop/specs/Calls.antt, and then one change of one repository. The number of a repository may be any byte and
+// stands beside the shop: the call itself refuses one above 3.
 #![tactic(auto)]
 
 mod checks;

@@ -1,19 +1,19 @@
 // Record: changes become a patch at the end of a history, under a new name.
-ghost use Rattle.std.specs.Prelude.{◌≡◌, ◌+◌, true, length, IfOk, Some};
+ghost use Rattle.std.specs.Prelude.{◌≡◌, ◌+◌, true, length, IfOk};
 ghost use Rattle.kinds.specs.Bounded.{roomy};
 ghost use Rattle.kinds.specs.Parts.{part};
 ghost use Rattle.shop.specs.Calls.{record_patch};
-ghost use Rattle.shop.specs.Held.{rooms, state_of};
-ghost use Rattle.shop.specs.Reached.{Record, answer as call_answer, after, Reached};
-ghost use Rattle.calls.specs.Untouched.{Untouched};
+ghost use Rattle.shop.specs.Held.{state_of};
+ghost use Rattle.shop.specs.Reached.{Record};
+ghost use Rattle.calls.specs.Handed.{with_run};
+ghost use Rattle.calls.specs.Leaves.{Leaves};
 ghost use Rattle.calls.specs.Run.{run_after, LeftInRun, new_document};
 
-use crate::checks::{a_patch, in_shop, next_name, room_for, sound};
-use crate::document::{apply_changes, document};
+use crate::checks::{a_patch, in_shop, next_name, room_for, sound_at};
+use crate::document::{apply_changes, document, zeros_if_refused};
 use crate::rooms::room_to_show;
 use forms::changes::growth_of;
 use kinds::kind::Kind;
-use memory::read::row;
 use memory::write::append;
 use shop::refusal::Refusal;
 use shop::shop::Shop;
@@ -29,8 +29,7 @@ fn recorded<K: Kind>(
         → LeftInRun K.Kind.theory (new_document K.Kind.theory (state_of shop.now) number changes.now) (part (λ n. tt) (λ x. x) result) run.new }
     ensures name { IfOk result (λ n. n ≡ shop.now.counter + 1) }
 {
-    let history = row(shop, number);
-    sound::<K>(history, shop.counter, number)?;
+    let history = sound_at::<K>(shop, number)?;
     let name = next_name(shop.counter)?;
     room_for::<K>(history, changes.len(), growth_of::<K>(changes))?;
     document::<K>(history, number, run)?;
@@ -47,27 +46,16 @@ pub fn record<K: Kind>(
     run: &mut [u32],
 ) -> Result<u8, Refusal<K::Fault>>
     ensures answer { result ≡ part (λ x. x.2) (λ x. x)
-        (record_patch K.Kind.theory (record { rows = rooms shop.old; run = Some (length run.old) }) (state_of shop.old) number changes.now) }
-    ensures state { state_of shop.new ≡ after K.Kind.theory (state_of shop.old)
-        (call_answer K.Kind.theory (record { rows = rooms shop.old; run = Some (length run.old) }) (state_of shop.old) (Record number changes.now)) }
+        (record_patch K.Kind.theory (with_run shop.old run.old) (state_of shop.old) number changes.now) }
     ensures run { run.new ≡ run_after K.Kind.theory run.old (part (λ x. x.0) (λ x. x)
-        (record_patch K.Kind.theory (record { rows = rooms shop.old; run = Some (length run.old) }) (state_of shop.old) number changes.now)) }
-    ensures rooms { rooms shop.new ≡ rooms shop.old }
-    ensures untouched { Untouched result shop.old shop.new }
-    ensures reached { Reached K.Kind.theory (state_of shop.old) → Reached K.Kind.theory (state_of shop.new) }
+        (record_patch K.Kind.theory (with_run shop.old run.old) (state_of shop.old) number changes.now)) }
+    ensures leaves { Leaves K.Kind.theory (with_run shop.old run.old) shop.old (Record number changes.now) result shop.new }
 {
     in_shop::<K>(number)?;
     room_to_show::<K>(shop, run)?;
     a_patch::<K>(changes)?;
-    match recorded::<K>(shop, number, changes, run) {
-        Ok(name) => {
-            append::<K>(shop, number, changes, name);
-            shop.counter = name;
-            Ok(name)
-        }
-        Err(refusal) => {
-            run.fill(0);
-            Err(refusal)
-        }
-    }
+    let name = zeros_if_refused(recorded::<K>(shop, number, changes, run), run)?;
+    append::<K>(shop, number, changes, name);
+    shop.counter = name;
+    Ok(name)
 }

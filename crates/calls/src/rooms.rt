@@ -1,8 +1,9 @@
 // The memory that is handed to a call: rows with room for 160 changes, and a run of the kind's words.
-ghost use Rattle.std.specs.Prelude.{◌≡◌, [], ◌∷◌, length, Some, None};
+ghost use Rattle.std.specs.Prelude.{◌≡◌};
 ghost use Rattle.shop.specs.Calls.{enough};
-ghost use Rattle.shop.specs.Held.{rooms};
+ghost use Rattle.calls.specs.Handed.{with_work, with_run};
 
+use crate::checks::or_refused;
 use forms::form::MOST_CHANGES;
 use histories::named::Named;
 use kinds::counts::roomy;
@@ -16,25 +17,20 @@ pub(crate) fn room_to_show<K: Kind>(
     shop: &Shop<K::Patch>,
     run: &[u32],
 ) -> Result<(), Refusal<K::Fault>>
-    ensures { result ≡ enough K.Kind.theory (record { rows = rooms shop.now; run = Some (length run.now) }) }
+    ensures { result ≡ enough K.Kind.theory (with_run shop.now run.now) }
 {
-    if rows_long(shop) && roomy(run, K::words()) {
-        Ok(())
-    } else {
-        Err(Refusal::WrongRoom)
-    }
+    let enough = rows_long(shop) && roomy(run, K::words());
+    or_refused(enough, Refusal::WrongRoom)
 }
 
-// A call with a work row, and no document run.
+// A call with a work row, and no document run. Not one function with the one above: each caller would test what it was
+// handed itself.
 pub(crate) fn room_to_work<K: Kind>(
     shop: &Shop<K::Patch>,
     work: &[Named<K::Patch>],
 ) -> Result<(), Refusal<K::Fault>>
-    ensures { result ≡ enough K.Kind.theory (record { rows = length work.now ∷ rooms shop.now; run = None }) }
+    ensures { result ≡ enough K.Kind.theory (with_work shop.now work.now) }
 {
-    if work.len() >= MOST_CHANGES && rows_long(shop) {
-        Ok(())
-    } else {
-        Err(Refusal::WrongRoom)
-    }
+    let enough = work.len() >= MOST_CHANGES && rows_long(shop);
+    or_refused(enough, Refusal::WrongRoom)
 }

@@ -1,18 +1,18 @@
 // Show: the document of a repository, in a run of words.
-ghost use Rattle.std.specs.Prelude.{◌≡◌, true, length, Some};
+ghost use Rattle.std.specs.Prelude.{◌≡◌, true, length};
 ghost use Rattle.kinds.specs.Bounded.{roomy};
 ghost use Rattle.kinds.specs.Parts.{part};
 ghost use Rattle.kinds.specs.Sequences.{and_then};
 ghost use Rattle.shop.specs.Calls.{sound_at, document as document_of, show as show_answer};
-ghost use Rattle.shop.specs.Held.{rooms, state_of};
+ghost use Rattle.shop.specs.Held.{state_of};
+ghost use Rattle.calls.specs.Handed.{with_run};
 ghost use Rattle.calls.specs.Run.{run_after, LeftInRun};
 
-use crate::checks::{in_shop, sound};
-use crate::document::document;
+use crate::checks::{in_shop, sound_at};
+use crate::document::{document, zeros_if_refused};
 use crate::rooms::room_to_show;
 use forms::form::patch_count;
 use kinds::kind::Kind;
-use memory::read::row;
 use shop::refusal::Refusal;
 use shop::shop::Shop;
 
@@ -25,8 +25,7 @@ fn shown<K: Kind>(
     ensures { roomy K.Kind.theory (length run.old) ≡ true
         → LeftInRun K.Kind.theory (and_then (sound_at K.Kind.theory (state_of shop.now) number) (document_of K.Kind.theory number)) result run.new }
 {
-    sound::<K>(row(shop, number), shop.counter, number)?;
-    document::<K>(row(shop, number), number, run)
+    document::<K>(sound_at::<K>(shop, number)?, number, run)
 }
 
 // Replays the history of the repository into the run, and answers its number of patches.
@@ -36,17 +35,12 @@ pub fn show<K: Kind>(
     run: &mut [u32],
 ) -> Result<usize, Refusal<K::Fault>>
     ensures answer { result ≡ part (λ x. x.1) (λ x. x)
-        (show_answer K.Kind.theory (record { rows = rooms shop.now; run = Some (length run.old) }) (state_of shop.now) number) }
+        (show_answer K.Kind.theory (with_run shop.now run.old) (state_of shop.now) number) }
     ensures run { run.new ≡ run_after K.Kind.theory run.old (part (λ x. x.0) (λ x. x)
-        (show_answer K.Kind.theory (record { rows = rooms shop.now; run = Some (length run.old) }) (state_of shop.now) number)) }
+        (show_answer K.Kind.theory (with_run shop.now run.old) (state_of shop.now) number)) }
 {
     in_shop::<K>(number)?;
     room_to_show::<K>(shop, run)?;
-    match shown::<K>(shop, number, run) {
-        Ok(()) => Ok(patch_count::<K>(row(shop, number))),
-        Err(refusal) => {
-            run.fill(0);
-            Err(refusal)
-        }
-    }
+    zeros_if_refused(shown::<K>(shop, number, run), run)?;
+    Ok(patch_count::<K>(shop.row(number)))
 }

@@ -1,16 +1,16 @@
 // Unrecord: a patch is dropped, and the later ones move to where they belong without it.
-ghost use Rattle.std.specs.Prelude.{◌≡◌, ◌∷◌, length, None};
+ghost use Rattle.std.specs.Prelude.{◌≡◌};
 ghost use Rattle.kinds.specs.Parts.{part};
 ghost use Rattle.shop.specs.Calls.{unrecord as unrecord_answer};
-ghost use Rattle.shop.specs.Held.{rooms, state_of};
-ghost use Rattle.shop.specs.Reached.{after, Reached};
-ghost use Rattle.calls.specs.Untouched.{Untouched};
+ghost use Rattle.shop.specs.Held.{state_of};
+ghost use Rattle.shop.specs.Reached.{Unrecord};
+ghost use Rattle.calls.specs.Handed.{with_work};
+ghost use Rattle.calls.specs.Leaves.{Leaves};
 
 use crate::take_out::take_out;
 use forms::form::patch_count;
 use histories::named::Named;
 use kinds::kind::Kind;
-use memory::read::row;
 use memory::write::replace;
 use shop::refusal::Refusal;
 use shop::shop::Shop;
@@ -22,14 +22,10 @@ pub fn unrecord<K: Kind>(
     name: u8,
     work: &mut [Named<K::Patch>],
 ) -> Result<usize, Refusal<K::Fault>>
-    ensures answer { result ≡ part (λ x. x.1) (λ x. x) (unrecord_answer K.Kind.theory (record { rows = length work.old ∷ rooms shop.old; run = None }) (state_of shop.old) number name) }
-    ensures state { state_of shop.new ≡ after K.Kind.theory (state_of shop.old)
-        (unrecord_answer K.Kind.theory (record { rows = length work.old ∷ rooms shop.old; run = None }) (state_of shop.old) number name) }
-    ensures rooms { rooms shop.new ≡ rooms shop.old }
-    ensures reached { Reached K.Kind.theory (state_of shop.old) → Reached K.Kind.theory (state_of shop.new) }
-    ensures untouched { Untouched result shop.old shop.new }
+    ensures answer { result ≡ part (λ x. x.1) (λ x. x) (unrecord_answer K.Kind.theory (with_work shop.old work.old) (state_of shop.old) number name) }
+    ensures leaves { Leaves K.Kind.theory (with_work shop.old work.old) shop.old (Unrecord number name) result shop.new }
 {
     let place = take_out::<K>(shop, number, name, work)?;
     replace::<K>(shop, number, work, place.start);
-    Ok(patch_count::<K>(row(shop, number)))
+    Ok(patch_count::<K>(shop.row(number)))
 }

@@ -1,7 +1,7 @@
 -- Whether a history has the right form, tested patch by patch.
-use Rattle.std.proofs.Common.{◌≡◌, ℕ, ◌-◌, ◌<◌, ◌≤◌, Bool, true, false, not, ◌&&◌, ltb, leb, List, ◌∷◌, length, get_or, take, drop, sym, refl, ap, ◌∙◌, ⊎_elim, arith}
+use Rattle.std.proofs.Common.{◌≡◌, ℕ, ◌<◌, ◌≤◌, Bool, true, false, not, ◌&&◌, ltb, leb, List, ◌∷◌, length, take, drop, sym, refl, ap, ◌∙◌, ⊎_elim, arith}
 use native.Mathlib.Nat.{min-eq_left, min-eq_right}
-use Rattle.std.proofs.lemmas.Bool.{and_left, and_right, and_from, not_from_true, lt-ltb, le-ltb, le-leb, lt-leb, cases_lt}
+use Rattle.std.proofs.lemmas.Bool.{and_left, and_right, and_from, le-leb, lt-leb, cases_lt}
 use Rattle.kinds.specs.Theory.{Theory}
 use Rattle.kinds.specs.Laws.{most}
 use Rattle.kinds.specs.Bounded.{saturated, largest}
@@ -10,14 +10,17 @@ use Rattle.histories.specs.declared.named.Named.{Named}
 use Rattle.histories.specs.Named.{named, one_to_eight, patches}
 use Rattle.histories.specs.History.{holds}
 use Rattle.histories.specs.Flat.{flat}
-use Rattle.forms.specs.Form.{grouped, first_count, numbered, apart, sound, most_patches, most_changes}
+use Rattle.forms.specs.Form.{grouped, numbered, apart, sound, most_patches, most_changes}
 use Rattle.forms.proofs.Grouping.{flat_grouped}
-use Rattle.forms.proofs.FirstPatch.{First, first_of, none_grouped}
+use Rattle.forms.proofs.FirstPatch.{First}
 use Rattle.forms.proofs.Writing.{flat_written}
 
 -- three tests, each of the first patch and then of the others
-three : (w u v W U V : Bool) → w ≡ true → u ≡ true → v ≡ true → (w && W) && (u && U) && (v && V) ≡ W && U && V
-three w u v W U V e f g = rw (e, f, g)
+three : (b w u W U V : Bool) → ((b && w) && u) && (W && U && V) ≡ (w && W) && (b && U) && (u && V)
+three true true true W U V = refl
+three true true false W U V = sym (and_right (W && U) false refl)
+three true false u W U V = refl
+three false w u W U V = sym (and_left ((w && W) && false) (u && V) (and_right (w && W) false refl))
 
 -- a test that is passed
 passed : (a b : Bool) → b ≡ true → a && b ≡ a
@@ -43,56 +46,39 @@ module _ {P F : Type 0} (T : Theory P F) (counter : ℕ) where
   abbrev in_range : ℕ → Bool
   in_range n = ltb 0 n && leb n counter
 
-  pub none_unsound : (row : List (Named P)) → length row ≡ 0 → true ≡ each_sound (grouped row)
-  none_unsound row e = sym (ap each_sound (none_grouped row e))
-
-  module _ (row : List (Named P)) (count : ℕ) (some : length row ≡ 0 → ⊥) (is : count ≡ first_count (grouped row)) (x : Named P) where
-    abbrev f : First row count
-    f = first_of row count some is
-
+  -- the first patch of a row is tested, and then the rest
+  module _ (row : List (Named P)) (x : Named P) (count : ℕ) (first : First row x.name count) (front later : List (Named P)) (is_front : front ≡ take count row) (is_later : later ≡ drop count row)
+      (b w v : Bool) (ranged : b ≡ in_range x.name) (tested : w ≡ one_to_eight front && all_written (named T) front) (held : v ≡ holds by_name (grouped later) x.name) where
     abbrev p : Named (List P)
-    p = f.patch
+    p = first.patch
 
-    abbrev h : List (Named (List P))
-    h = f.others
+    rest_is : grouped later ≡ first.others
+    rest_is = ap grouped is_later ∙ first.rest
 
-    -- as the row is grouped
-    seen : (r : Bool) → each_sound (p ∷ h) ≡ r → r ≡ each_sound (grouped row)
-    seen r e = sym (ap each_sound f.is ∙ e)
+    by_tests : ((b && w) && not v) && each_sound (grouped later) ≡ each_sound (grouped row)
+    by_tests =
+        let range_is : b ≡ in_range p.name = ranged ∙ ap in_range (sym first.named) in
+        let written_is : w ≡ (patches T).written p =
+        tested ∙ ap (λ (z : List (Named P)). one_to_eight z && all_written (named T) z) (is_front ∙ first.front) ∙ flat_written T p in
+        let held_is : v ≡ holds by_name first.others p.name = held ∙ ap (λ z. holds by_name z x.name) rest_is ∙ ap (holds by_name first.others) (sym first.named) in
+        ap (λ z. ((b && w) && not v) && each_sound z) rest_is
+        ∙ three b w (not v) (all_written (patches T) first.others) (numbered counter first.others) (apart by_name first.others)
+        ∙ ap (λ z. (z && all_written (patches T) first.others) && (b && numbered counter first.others) && (not v && apart by_name first.others)) written_is
+        ∙ ap (λ z. all_written (patches T) (p ∷ first.others) && (z && numbered counter first.others) && (not v && apart by_name first.others)) range_is
+        ∙ ap (λ z. all_written (patches T) (p ∷ first.others) && numbered counter (p ∷ first.others) && (not z && apart by_name first.others)) held_is
+        ∙ ap each_sound (sym first.is)
 
-    misnumbered : in_range p.name ≡ false → false ≡ each_sound (grouped row)
-    misnumbered e = seen false (and_left _ _ (and_right (all_written (patches T) (p ∷ h)) (numbered counter (p ∷ h)) (and_left (in_range p.name) (numbered counter h) e)))
+    pub misnumbered : b ≡ false → false ≡ each_sound (grouped row)
+    misnumbered e = sym (and_left _ _ (and_left _ _ (and_left b w e))) ∙ by_tests
 
-    pub zero_named : (get_or row 0 x).name ≡ 0 → false ≡ each_sound (grouped row)
-    zero_named e = let k = f.starts x in misnumbered (and_left (ltb 0 p.name) (leb p.name counter) (le-ltb 0 p.name (omega arith)))
+    pub unwritten : w ≡ false → false ≡ each_sound (grouped row)
+    unwritten e = sym (and_left _ _ (and_left _ _ (and_right b w e))) ∙ by_tests
 
-    pub named_above : counter < (get_or row 0 x).name → false ≡ each_sound (grouped row)
-    named_above e = let k = f.starts x in misnumbered (and_right (ltb 0 p.name) (leb p.name counter) (lt-leb p.name counter (omega arith)))
+    pub twice : not v ≡ false → false ≡ each_sound (grouped row)
+    twice e = sym (and_left _ _ (and_right (b && w) (not v) e)) ∙ by_tests
 
-    -- the test of the first changes
-    module _ (w : Bool) (tested : w ≡ one_to_eight (take (count - 0) row) && all_written (named T) (take (count - 0) row)) where
-      written_is : (patches T).written p ≡ w
-      written_is = sym (tested ∙ ap (λ (z : List (Named P)). one_to_eight z && all_written (named T) z) f.front ∙ flat_written T p)
-
-      pub unwritten : w ≡ false → false ≡ each_sound (grouped row)
-      unwritten e = seen false (and_left _ _ (and_left _ _ (and_left ((patches T).written p) (all_written (patches T) h) (written_is ∙ e))))
-
-      -- the test of the others
-      module _ (v : Bool) (held : v ≡ holds (λ w. w.name) (grouped (take (length row - count) (drop count row))) (get_or row 0 x).name) where
-        held_is : holds by_name h p.name ≡ v
-        held_is = sym (held ∙ ap (λ z. holds by_name z (get_or row 0 x).name) f.rest ∙ ap (holds by_name h) (f.starts x))
-
-        pub twice : v ≡ true → false ≡ each_sound (grouped row)
-        twice e = seen false (and_right (all_written (patches T) (p ∷ h) && numbered counter (p ∷ h)) (apart by_name (p ∷ h))
-            (and_left (not (holds by_name h p.name)) (apart by_name h) (not_from_true (holds by_name h p.name) (held_is ∙ e))))
-
-        pub then_others : ((get_or row 0 x).name ≡ 0 → ⊥) → (get_or row 0 x).name ≤ counter → w ≡ true → v ≡ false
-            → (r : Bool) → r ≡ each_sound (grouped (take (length row - count) (drop count row))) → r ≡ each_sound (grouped row)
-        then_others n m a b r i =
-            let k = f.starts x in
-            let named : in_range p.name ≡ true = and_from (ltb 0 p.name) (leb p.name counter) (lt-ltb 0 p.name (omega arith)) (le-leb p.name counter (omega arith)) in
-            seen r (three ((patches T).written p) (in_range p.name) (not (holds by_name h p.name)) (all_written (patches T) h) (numbered counter h) (apart by_name h)
-            (written_is ∙ a) named (ap not (held_is ∙ b)) ∙ sym (i ∙ ap each_sound f.rest))
+    pub then_rest : b ≡ true → w ≡ true → not v ≡ true → (r : Bool) → r ≡ each_sound (grouped later) → r ≡ each_sound (grouped row)
+    then_rest e f n r i = i ∙ ap (λ z. z && each_sound (grouped later)) (sym (and_from (b && w) (not v) (and_from b w e f) n)) ∙ by_tests
 
   -- the whole row
   module _ (row : List (Named P)) where

@@ -1,41 +1,40 @@
 -- How much changes and patches grow a document.
-use Rattle.std.proofs.Common.{◌≡◌, ℕ, ◌+◌, ◌-◌, ◌*◌, ◌<◌, List, [], ◌∷◌, ◌++◌, map, length, get_or, take, drop, sym, refl, ap, ◌∙◌, arith}
-use Rattle.std.proofs.lemmas.List.{take_more}
+use Rattle.std.proofs.Common.{◌≡◌, ℕ, ◌+◌, ◌*◌, List, [], ◌∷◌, map, sym, refl, ap, ◌∙◌, arith}
+use Rattle.std.specs.List.{fold, sum_by}
+use Rattle.std.proofs.lemmas.List.Sums.{sum_by-cons}
+use Rattle.std.proofs.lemmas.List.Recursion.{is_sum_by}
 use Rattle.kinds.specs.Theory.{Theory}
 use Rattle.kinds.specs.Bounded.{saturated}
 use Rattle.kinds.specs.Sequences.{growths, inverses}
 use Rattle.kinds.proofs.Sequences.{growths_append}
-use Rattle.rows.proofs.Rests.{rest_is}
+use Rattle.kinds.proofs.Totals.{saturated_total}
 use Rattle.histories.specs.declared.named.Named.{Named}
 use Rattle.histories.specs.Named.{under, named, patches}
 use Rattle.histories.specs.Flat.{flat_of, flat}
 use Rattle.forms.specs.Form.{grouped}
 use Rattle.forms.proofs.Grouping.{flat_grouped}
 
+-- told one by one
+module _ {P : Type 0} (each : P → ℕ) where
+  abbrev pub told : ℕ → P → ℕ
+  told sum c = saturated (1 * saturated (each c) + sum)
+
+  told_on : (n : ℕ) (cs : List P) → fold told (saturated n) cs ≡ saturated (n + sum_by each cs)
+  told_on n [] = ap saturated (omega arith)
+  told_on n (c ∷ cs) =
+      let k = sum_by-cons each c cs in
+      ap (λ m. fold told m cs) (saturated_total 1 (each c) n (omega arith) ∙ ap saturated (omega arith)) ∙ told_on (n + each c) cs ∙ ap saturated (omega arith)
+
+  pub told_all : (cs : List P) → fold told 0 cs ≡ saturated (sum_by each cs)
+  told_all cs = told_on 0 cs ∙ ap saturated (omega arith)
+
 module _ {P F : Type 0} (T : Theory P F) where
-  -- the changes so far, and one more
-  pub grown_more : (cs : List P) (i : ℕ) (x : P) (each sum r : ℕ) → i < length cs → x ≡ get_or cs i x → each ≡ saturated (T.growth x) → sum ≡ saturated (growths T (take i cs))
-      → ((m n : ℕ) → 0 < 1 → each ≡ saturated m → sum ≡ saturated n → r ≡ saturated (1 * m + n)) → r ≡ saturated (growths T (take (i + 1) cs))
-  grown_more cs i x each sum r h is e f t =
-      let whole : take (i + 1) cs ≡ take i cs ++ x ∷ [] = take_more cs i x h ∙ ap (λ (y : P). take i cs ++ y ∷ []) (sym is) in
-      let a = growths_append T (take i cs) (x ∷ []) in
-      let k : 1 * T.growth x + growths T (take i cs) ≡ growths T (take i cs ++ x ∷ []) = omega arith in
-      t (T.growth x) (growths T (take i cs)) (omega arith) e f ∙ ap saturated (k ∙ ap (growths T) (sym whole))
+  pub growths_sum : (cs : List P) → growths T cs ≡ sum_by T.growth cs
+  growths_sum = is_sum_by (growths T) T.growth refl (λ c cs. refl)
 
-  -- the inverse of none, and of one change more in front
-  pub none_grown_back : (cs : List P) → length cs ≡ 0 → 0 ≡ saturated (growths T (inverses T cs))
-  none_grown_back [] e = refl
-  none_grown_back (c ∷ cs) e = absurd (omega arith)
-
-  pub grown_back : (cs : List P) (x y : P) (each sum r : ℕ) → (length cs ≡ 0 → ⊥) → x ≡ get_or cs 0 x → y ≡ T.invert x → each ≡ saturated (T.growth y)
-      → sum ≡ saturated (growths T (inverses T (take (length cs - 1) (drop 1 cs)))) → ((m n : ℕ) → 0 < 1 → each ≡ saturated m → sum ≡ saturated n → r ≡ saturated (1 * m + n))
-      → r ≡ saturated (growths T (inverses T cs))
-  grown_back [] x y each sum r n is i e f t = absurd (n refl)
-  grown_back (c ∷ cs) x y each sum r n is i e f t =
-      let same : y ≡ T.invert c = i ∙ ap T.invert is in
-      let a = growths_append T (inverses T cs) (T.invert c ∷ []) in
-      let k : 1 * T.growth (T.invert c) + growths T (inverses T cs) ≡ growths T (inverses T cs ++ T.invert c ∷ []) = omega arith in
-      t (T.growth (T.invert c)) (growths T (inverses T cs)) (omega arith) (e ∙ ap (λ z. saturated (T.growth z)) same) (f ∙ ap (λ z. saturated (growths T (inverses T z))) (rest_is c cs)) ∙ ap saturated k
+  pub inverses_sum : (cs : List P) → growths T (inverses T cs) ≡ sum_by (λ c. T.growth (T.invert c)) cs
+  inverses_sum = is_sum_by (λ cs. growths T (inverses T cs)) (λ c. T.growth (T.invert c)) refl
+      (λ c cs. growths_append T (inverses T cs) (T.invert c ∷ []) ∙ omega arith)
 
   -- as much as its changes
   growths_flat : (h : List (Named (List P))) → growths (named T) (flat h) ≡ growths (patches T) h

@@ -1,5 +1,6 @@
 pub mod Grouping
 pub mod FirstPatch
+pub mod Parts
 pub mod Apart
 pub mod Finding
 pub mod Writing

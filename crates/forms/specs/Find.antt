@@ -3,7 +3,7 @@ use Rattle.std.specs.Prelude.{ℕ, ◌+◌, cond, List, [], ◌∷◌, length, S
 use Rattle.kinds.specs.Theory.{Theory}
 use Rattle.histories.specs.declared.named.Named.{Named}
 use Rattle.histories.specs.Flat.{flat}
-use Rattle.forms.specs.declared.find.Place.{Place}
+use Rattle.rows.specs.declared.place.Place.{Place}
 
 -- A patch of a history, and the patches before and behind it.
 pub record Standing (P : Type 0) : Type 0 where

@@ -27,11 +27,6 @@ module _ {P : Type 0} where
   grouped [] = []
   grouped (c ∷ cs) = put_before c (grouped cs)
 
-  -- How many changes the first patch has.
-  abbrev pub first_count : List (Named (List P)) → ℕ
-  first_count [] = 0
-  first_count (p ∷ h) = length p.changes
-
   -- Each name is one of 1 to the counter.
   abbrev pub numbered : ℕ → List (Named (List P)) → Bool
   numbered counter [] = true

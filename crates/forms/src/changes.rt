@@ -15,50 +15,33 @@ pub const MOST_IN_PATCH: usize = 8;
 pub fn first_unwritable<K: Kind>(changes: &[K::Patch]) -> Option<usize>
     ensures { result ≡ unwritable K.Kind.theory 0 changes.now }
 {
-    for i in 0..changes.len() {
-        if !K::writable(changes[i]) {
-            return Some(i);
-        }
-    }
-    None
+    changes.iter().position(|change| !K::writable(*change))
 }
 
 // Whether the changes make a patch: one to eight, and each can be written.
 pub(crate) fn make_patch<K: Kind>(changes: &[K::Patch]) -> bool
     ensures { result ≡ one_to_eight changes.now && all_written K.Kind.theory changes.now }
 {
-    let n = changes.len();
-    if n == 0 {
-        return false;
-    }
-    if n > MOST_IN_PATCH {
-        return false;
-    }
-    first_unwritable::<K>(changes).is_none()
+    (1..=MOST_IN_PATCH).contains(&changes.len())
+        && changes.iter().all(|change| K::writable(*change))
 }
 
 // By how much the changes can make a document larger, at most.
 pub fn growth_of<K: Kind>(changes: &[K::Patch]) -> u32
     ensures { result ≡ saturated (growths K.Kind.theory changes.now) }
 {
-    let mut sum = 0;
-    for i in 0..changes.len() {
-        sum = total(1, K::grows_by(changes[i]), sum);
-    }
-    sum
+    changes
+        .iter()
+        .fold(0, |sum, change| total(1, K::grows_by(*change), sum))
 }
 
-// By how much the inverse of the changes can make a document larger, at most.
+// By how much the inverse of the changes can make a document larger, at most. A function for this and the one above, with
+// a closure for the growth of a change, would be longer than the two.
 pub fn growth_of_inverse<K: Kind>(changes: &[K::Patch]) -> u32
     ensures { result ≡ saturated (growths K.Kind.theory (inverses K.Kind.theory changes.now)) }
 {
-    let n = changes.len();
-    if n == 0 {
-        return 0;
-    }
-    total(
-        1,
-        K::grows_by(K::invert(changes[0])),
-        growth_of_inverse::<K>(&changes[1..n]),
+    changes.iter().fold(
+        0,
+        |sum, change| total(1, K::grows_by(K::invert(*change)), sum),
     )
 }

@@ -6,7 +6,8 @@ ghost use Rattle.histories.specs.Named.{patches};
 ghost use Rattle.forms.specs.Form.{grouped, numbered, apart, sound};
 
 use crate::changes::{growth_of, make_patch};
-use crate::find::{first_patch, holds};
+use crate::find::holds;
+use histories::flat::leading;
 use histories::named::{Labelled, Named};
 use kinds::kind::Kind;
 
@@ -23,12 +24,7 @@ pub const MOST_GROWTH: u32 = 120;
 pub fn patch_count<K: Kind>(row: &[Named<K::Patch>]) -> usize
     ensures { result ≡ length (grouped row.now) }
 {
-    let n = row.len();
-    if n == 0 {
-        return 0;
-    }
-    let count = first_patch::<K>(row);
-    1 + patch_count::<K>(&row[count..n])
+    row.chunk_by(|a, b| a.name == b.name).count()
 }
 
 // By how much the patches of the row can make a document larger, at most.
@@ -43,39 +39,24 @@ fn patches_sound<K: Kind>(row: &[Named<K::Patch>], counter: u8) -> bool
     ensures { result ≡ all_written (patches K.Kind.theory) (grouped row.now)
         && numbered counter (grouped row.now) && apart (λ w. w.name) (grouped row.now) }
 {
-    let n = row.len();
-    if n == 0 {
+    let Some(first) = row.first() else {
         return true;
-    }
-    let count = first_patch::<K>(row);
-    let name = row[0].name;
-    if name == 0 {
-        return false;
-    }
-    if name > counter {
-        return false;
-    }
-    if !make_patch::<Labelled<K>>(&row[0..count]) {
-        return false;
-    }
-    if holds::<K>(&row[count..n], name) {
-        return false;
-    }
-    patches_sound::<K>(&row[count..n], counter)
+    };
+    let name = first.name;
+    let (patch, later) = row.split_at(leading::<K>(row, name));
+    (1..=counter).contains(&name)
+        && make_patch::<Labelled<K>>(patch)
+        && !holds::<K>(later, name)
+        // The recursion stays: a chain over the parts does not give what stands behind each.
+        && patches_sound::<K>(later, counter)
 }
 
 // Whether the row holds a history of the right form, where names up to the counter have been given.
 pub fn is_sound<K: Kind>(row: &[Named<K::Patch>], counter: u8) -> bool
     ensures { result ≡ sound K.Kind.theory counter (grouped row.now) }
 {
-    if row.len() > MOST_CHANGES {
-        return false;
-    }
-    if growth::<K>(row) > MOST_GROWTH {
-        return false;
-    }
-    if patch_count::<K>(row) > MOST_PATCHES {
-        return false;
-    }
-    patches_sound::<K>(row, counter)
+    row.len() <= MOST_CHANGES
+        && growth::<K>(row) <= MOST_GROWTH
+        && patch_count::<K>(row) <= MOST_PATCHES
+        && patches_sound::<K>(row, counter)
 }

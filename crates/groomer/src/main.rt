@@ -5,9 +5,8 @@
 mod showing;
 mod telling;
 
-use anyhow::anyhow;
-use options::fitting::{put_on, take_off};
-use options::parts::{Options, find_option};
+use anyhow::bail;
+use options::parts::{Options, Stuck};
 use product::controller::controller_words;
 use showing::show_controller;
 use std::{env, fs};
@@ -16,7 +15,7 @@ use texts::reading::read_options;
 
 // Puts all options on, and prints what the controller then holds.
 fn fit(rt: &HostRuntime, options: &Options, run: &mut [u32]) -> anyhow::Result<()> {
-    match put_on(options, run) {
+    match options.put_on(run) {
         Ok(()) => show_controller(rt, run),
         Err(failure) => tell_misfit(rt, options, failure),
     }
@@ -28,10 +27,8 @@ fn take(
     name: &str,
     run: &mut [u32],
 ) -> anyhow::Result<()> {
-    let Some(at) = find_option(options, name.as_bytes()) else {
-        return Err(anyhow!("there is no such option"));
-    };
-    match take_off(rt.alloc(), options, at) {
+    let at = options.find(name.as_bytes()).ok_or(Stuck::NoSuchOption)?;
+    match options.take_off(rt.alloc(), at) {
         Ok(()) => {
             println!(rt; "taken off: {name}")?;
             fit(rt, options, run)
@@ -44,7 +41,7 @@ fn run(rt: &HostRuntime) -> anyhow::Result<()> {
     let mut args = env::args(rt)?;
     let _ = args.next();
     let Some(path) = args.next() else {
-        return Err(anyhow!("usage: groomer FILE [OPTION]"));
+        bail!("usage: groomer FILE [OPTION]");
     };
     let text = fs::read_to_string(rt, path.as_str())?;
     let mut options = match read_options(rt.alloc(), text.as_str()) {

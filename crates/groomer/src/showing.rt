@@ -1,66 +1,55 @@
 // A controller, as a person reads it.
+use kinds::kind::Kind;
+use lines::line::Line;
 use lines::note::Note;
-use std::io;
+use lines::rule::Rule;
+use lists::Lists;
+use product::controller::{Content, MODULE_NAMES};
+use std::{fmt, io};
 
 const SHEETS: usize = 4;
 
-const SHEET_WORDS: usize = 667;
+const COLUMNS: usize = 8;
 
-const NOTES: usize = 481;
+// The text of a note, without the zero bytes behind it.
+#[derive(Clone, Copy)]
+struct Text(Note);
 
-const RULES: usize = 121;
-
-fn module_name(module: usize) -> &'static str {
-    match module {
-        0 => "basic",
-        1 => "winch",
-        _ => "tiller",
-    }
-}
-
-// Prints the text of a note, without the zero bytes behind it.
-fn show_note(rt: &HostRuntime, at: usize, note: Note) -> io::Result<()> {
-    print!(rt; "      {at} \"")?;
-    for byte in note.bytes() {
-        if byte != 0 {
-            let c = char::from(byte);
-            print!(rt; "{c}")?;
+impl fmt::Display for Text {
+    fn fmt<W: fmt::Write>(&self, f: &mut fmt::Formatter<W>) -> fmt::Result {
+        for byte in self.0.bytes() {
+            if byte != 0 {
+                f.write_char(char::from(byte))?;
+            }
         }
+        Ok(())
     }
-    println!(rt; "\"")
 }
 
 fn show_notes(rt: &HostRuntime, words: &[u32]) -> io::Result<()> {
-    let Some(count) = words.first() else {
+    let Some((count, lines)) = words.split_first() else {
         return Ok(());
     };
-    let count = *count as usize;
     println!(rt; "    notes")?;
-    for i in 0..count.min(120) {
-        let at = 1 + 4 * i;
-        if at + 4 <= words.len() {
-            show_note(
-                rt,
-                i,
-                Note {
-                    first: words[at],
-                    second: words[at + 1],
-                    third: words[at + 2],
-                    fourth: words[at + 3],
-                },
-            )?;
+    for (i, line) in lines
+        .chunks_exact(Note::words() as usize)
+        .take(*count as usize)
+        .enumerate()
+    {
+        if let Some(note) = Note::read(line) {
+            let text = Text(note);
+            println!(rt; "      {i} \"{text}\"")?;
         }
     }
     Ok(())
 }
 
 fn show_rules(rt: &HostRuntime, words: &[u32]) -> io::Result<()> {
-    let Some(count) = words.first() else {
+    let Some((count, rules)) = words.split_first() else {
         return Ok(());
     };
-    let count = *count as usize;
     println!(rt; "    rules")?;
-    for (i, rule) in words.iter().skip(1).take(count).enumerate() {
+    for (i, rule) in rules.iter().take(*count as usize).enumerate() {
         println!(rt; "      {i} {rule:08x}")?;
     }
     Ok(())
@@ -68,13 +57,13 @@ fn show_rules(rt: &HostRuntime, words: &[u32]) -> io::Result<()> {
 
 fn show_table(rt: &HostRuntime, words: &[u32]) -> io::Result<()> {
     println!(rt; "    cells")?;
-    for (i, word) in words.iter().enumerate() {
-        if let Some(value) = tables::word_cell(*word)
-            && value != 0
-        {
-            let row = i / 8;
-            let column = i % 8;
-            println!(rt; "      {row} {column} {value}")?;
+    for (row, words) in words.chunks(COLUMNS).enumerate() {
+        for (column, word) in words.iter().enumerate() {
+            if let Some(value) = tables::word_cell(*word)
+                && value != 0
+            {
+                println!(rt; "      {row} {column} {value}")?;
+            }
         }
     }
     Ok(())
@@ -82,22 +71,26 @@ fn show_table(rt: &HostRuntime, words: &[u32]) -> io::Result<()> {
 
 // Prints a sheet that is there.
 fn show_sheet(rt: &HostRuntime, words: &[u32]) -> io::Result<()> {
-    if words.len() < NOTES + RULES {
+    let Some((notes, words)) = words.split_at_checked(Lists::<Note>::words() as usize) else {
         return Ok(());
-    }
-    show_notes(rt, &words[0..NOTES])?;
-    show_rules(rt, &words[NOTES..NOTES + RULES])?;
-    show_table(rt, &words[NOTES + RULES..])
+    };
+    let Some((rules, cells)) = words.split_at_checked(Lists::<Rule>::words() as usize) else {
+        return Ok(());
+    };
+    show_notes(rt, notes)?;
+    show_rules(rt, rules)?;
+    show_table(rt, cells)
 }
 
-// Prints every sheet that is there.
+// Prints every sheet that is there. A sheet has a word in front that says whether it is.
 pub fn show_controller(rt: &HostRuntime, run: &[u32]) -> anyhow::Result<()> {
-    for (i, sheet) in run.chunks(SHEET_WORDS).enumerate() {
-        if let [1, words @ ..] = sheet {
-            let module = module_name(i / SHEETS);
-            let number = i % SHEETS;
-            println!(rt; "  module {module} sheet {number}")?;
-            show_sheet(rt, words)?;
+    let words = 1 + Content::words() as usize;
+    for (module, sheets) in MODULE_NAMES.iter().zip(run.chunks(SHEETS * words)) {
+        for (number, sheet) in sheets.chunks(words).enumerate() {
+            if let [1, words @ ..] = sheet {
+                println!(rt; "  module {module} sheet {number}")?;
+                show_sheet(rt, words)?;
+            }
         }
     }
     Ok(())

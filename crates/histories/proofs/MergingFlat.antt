@@ -1,6 +1,6 @@
 -- A patch merged over a history, in flat rows.
-use Rattle.std.proofs.Common.{◌≡◌, ℕ, ◌+◌, ◌-◌, ◌<◌, List, [], ◌∷◌, ◌++◌, map, length, get_or, take, drop, Ok, Err, Result, sym, refl, ap, ◌∙◌, subst, append_assoc, arith, length-append}
-use borrow.Rule.Slice.PartMut.{put_mid, post_of}
+use Rattle.std.proofs.Common.{◌≡◌, ℕ, ◌-◌, ◌<◌, List, [], ◌∷◌, ◌++◌, map, length, get_or, take, drop, Ok, Err, Result, sym, refl, ap, ◌∙◌, subst, append_assoc, arith, length-append}
+use borrow.Rule.Slice.PartMut.{put_mid}
 use Rattle.std.proofs.lemmas.List.{take_at, drop_at, take-append-drop, length-take-le, length-drop, length-map, append-nil}
 use Rattle.std.proofs.lemmas.Slice.{between_to_end}
 use Rattle.std.specs.List.{between}
@@ -14,7 +14,6 @@ use Rattle.kinds.specs.Sequences.{and_then, inverses, sequences}
 use Rattle.rows.specs.Pass.{Passed, passing, fault_of}
 use Rattle.rows.proofs.Passing.{forgotten}
 use Rattle.rows.proofs.Taking.{lengths}
-use Rattle.rows.proofs.Rests.{rest_is}
 use Rattle.histories.specs.declared.Stop.{Stop}
 use Rattle.histories.specs.declared.named.Named.{Named}
 use Rattle.histories.specs.Named.{under, named, patches}
@@ -62,28 +61,26 @@ module _ {P F : Type 0} (T : Theory P F) where
 
   -- the name of the first change, and how many have it
   first_named : (others behind : List (Named P)) (x : Named P) (lead k : ℕ) (cs : List P) → others ≡ map (under k) cs ++ behind → 0 < length cs → OtherName k behind
-      → ((ds : List P) (bs : List (Named P)) → take (length others - 1) (drop 1 others) ≡ map (under (get_or others 0 x).name) ds ++ bs → OtherName (get_or others 0 x).name bs → lead ≡ length ds)
-      → ((get_or others 0 x).name ≡ k) × (1 + lead ≡ length cs)
+      → ((ds : List P) (bs : List (Named P)) → others ≡ map (under (get_or others 0 x).name) ds ++ bs → OtherName (get_or others 0 x).name bs → lead ≡ length ds)
+      → ((get_or others 0 x).name ≡ k) × (lead ≡ length cs)
   first_named others behind x lead k [] e z o h = absurd (omega arith)
   first_named others behind x lead k (c ∷ cs) e z o h =
       let same : (get_or others 0 x).name ≡ k = ap (λ z. (get_or z 0 x).name) e in
-      let n : lead ≡ length cs =
-      h cs behind (ap (λ z. take (length z - 1) (drop 1 z)) e ∙ rest_is (under k c) (map (under k) cs ++ behind) ∙ ap (λ z. map (under z) cs ++ behind) (sym same)) (subst (λ z. OtherName z behind) (sym same) o) in
-      (same, omega arith)
+      (same, h (c ∷ cs) behind (e ∙ ap (λ z. map (under z) (c ∷ cs) ++ behind) (sym same)) (subst (λ z. OtherName z behind) (sym same) o))
 
   module _ (others work : List (Named P)) (count room lead : ℕ) (x : Named P) (h : room ≡ length work - count)
-      (first : (ds : List P) (bs : List (Named P)) → take (length others - 1) (drop 1 others) ≡ map (under (get_or others 0 x).name) ds ++ bs → OtherName (get_or others 0 x).name bs → lead ≡ length ds)
+      (first : (ds : List P) (bs : List (Named P)) → others ≡ map (under (get_or others 0 x).name) ds ++ bs → OtherName (get_or others 0 x).name bs → lead ≡ length ds)
       (r : Result (Unit {0}) Clash) (mid : List (Named P))
-      (one : (free ns : List (Named P)) → between (room - (1 + lead)) (length work) work ≡ free ++ ns → length free ≡ length (take (1 + lead - 0) others)
-      → Passed (answer (sequences N) (inverses N (take (1 + lead - 0) others)) ns) r mid) where
+      (one : (free ns : List (Named P)) → between (room - lead) (length work) work ≡ free ++ ns → length free ≡ length (take lead others)
+      → Passed (answer (sequences N) (inverses N (take lead others)) ns) r mid) where
     -- how the rows are cut at the first patch of the others
     record Cut (w : Named (List P)) (ws : List (Named (List P))) (n : Named (List P)) (free : List (Named P)) : Type 0 where
       same_name : (get_or others 0 x).name ≡ w.name
-      so_many : 1 + lead ≡ length w.changes
+      so_many : lead ≡ length w.changes
       front : List (Named P)
       back : List (Named P)
       both_are : work ≡ front ++ (back ++ flat_of n)
-      front_long : length front ≡ room - (1 + lead)
+      front_long : length front ≡ room - lead
       front_same : length front ≡ length (flat ws)
       went : Passed (part (named_so n.name w.name) (λ c. c) (answer (sequences T) (inverses T w.changes) n.changes)) r mid
 
@@ -95,14 +92,14 @@ module _ {P F : Type 0} (T : Theory P F) where
         let b = length-map n.changes (under n.name) in
         let c = length-map w.changes (under w.name) in
         let d = length-append (flat_of w) (flat ws) in
-        let start : ℕ = room - (1 + lead) in
+        let start : ℕ = room - lead in
         let long : length (take start free) ≡ start = length-take-le start free (omega arith) in
         let rest : length (drop start free) ≡ length w.changes = length-drop start free ∙ omega arith in
         let whole : work ≡ take start free ++ (drop start free ++ flat_of n) = f ∙ ap (λ z. z ++ flat_of n) (sym (take-append-drop start free)) ∙ append_assoc (take start free) (drop start free) (flat_of n) in
         let window : between start (length work) work ≡ drop start free ++ flat_of n =
         between_to_end work start (length work) (omega arith) ∙ ap (drop start) whole ∙ drop_at (take start free) (drop start free ++ flat_of n) start long in
-        let patch : take (1 + lead - 0) others ≡ flat_of w = ap (take (1 + lead - 0)) e ∙ take_at (flat_of w) (flat ws) (1 + lead - 0) (omega arith) in
-        let p : Passed (answer (sequences N) (inverses N (take (1 + lead - 0) others)) (flat_of n)) r mid = one (drop start free) (flat_of n) window (rest ∙ sym c ∙ sym (ap length patch)) in
+        let patch : take lead others ≡ flat_of w = ap (take lead) e ∙ take_at (flat_of w) (flat ws) lead (omega arith) in
+        let p : Passed (answer (sequences N) (inverses N (take lead others)) (flat_of n)) r mid = one (drop start free) (flat_of n) window (rest ∙ sym c ∙ sym (ap length patch)) in
         record {
           same_name = same;
           so_many = many;
@@ -116,36 +113,37 @@ module _ {P F : Type 0} (T : Theory P F) where
         }
 
     -- a patch of the others stopped it
-    pub stopped_over : (c : Clash) → r ≡ Err c → (stop : Stop) (left : List (Named P)) → (length others ≡ 0 → ⊥) → stop ≡ stopped_at (λ n. n) (get_or others 0 x).name c → Merges others work count (Err stop) left
-    stopped_over c i stop left z g [] n free e t f l k = absurd (z (ap length e))
-    stopped_over c i stop left z g (w ∷ ws) n free e t f l k =
+    pub stopped_over : (stop : Stop) (left : List (Named P)) → (length others ≡ 0 → ⊥) → part (λ u. u) (stopped_at (λ n. n) (get_or others 0 x).name) r ≡ Err stop → Merges others work count (Err stop) left
+    stopped_over stop left z g [] n free e t f l k = absurd (z (ap length e))
+    stopped_over stop left z g (w ∷ ws) n free e t f l k =
         let u = cut_there w ws n free e t f l k in
         subst (λ y. BeginsWith count (and_then y (λ (n', w'). merged (patches T) (λ w. w.name) ws n')) (Err stop) left) (sym (commuted_changes T w ((patches T).invert w) n))
-        (on (g ∙ ap (λ y. stopped_at (λ n. n) y c) u.same_name) (answer (sequences T) (inverses T w.changes) n.changes) u.went)
+        (on r (ap (λ y. part (λ (u : Unit {0}). u) (stopped_at (λ n. n) y) r) (sym u.same_name) ∙ g) (answer (sequences T) (inverses T w.changes) n.changes) u.went)
       where
         told : (d : Clash) → stopped_at (λ n. n) w.name d ≡ stopped_at (λ (w : Named (List P)). w.name) w d
         told Refused = refl
         told TooFar = refl
 
-        on : stop ≡ stopped_at (λ n. n) w.name c → (a : Result (List P × List P) Clash)
+        on : (r : Result (Unit {0}) Clash) → part (λ u. u) (stopped_at (λ n. n) w.name) r ≡ Err stop → (a : Result (List P × List P) Clash)
             → Passed (part (named_so n.name w.name) (λ c. c) a) r mid
             → BeginsWith count (then_over w ws n a) (Err stop) left
-        on j (Ok s) p = absurd (let y : ◌≡◌ {A = ℕ} 0 1 = cc (i, p.0) in omega arith)
-        on j (Err d) p = let y : c ≡ d = cc in ap Err (j ∙ told c ∙ ap (stopped_at (λ (w : Named (List P)). w.name) w) y)
+        on (Ok u) j a p = absurd (let y : ◌≡◌ {A = ℕ} 0 1 = cc in omega arith)
+        on (Err c) j (Ok s) p = absurd (let y : ◌≡◌ {A = ℕ} 0 1 = cc p.0 in omega arith)
+        on (Err c) j (Err d) p = let y : c ≡ d = cc in sym j ∙ ap Err (told c ∙ ap (stopped_at (λ (w : Named (List P)). w.name) w) y)
 
     -- it came through, and goes on
     module _ (i : r ≡ Ok tt) (rest : List (Named P)) (told : Result (Unit {0}) Stop) where
       abbrev held : List (Named P)
-      held = put_mid (room - (1 + lead)) (length work - (room - (1 + lead))) work mid
+      held = put_mid (room - lead) (length work - (room - lead)) work mid
 
       abbrev left : List (Named P)
-      left = rest ++ post_of 0 (length work - (1 + lead) - 0) held
+      left = rest ++ drop (length work - lead) held
 
       longer : (a : Result (Named (List P)) Stop) → BeginsWith count a told rest → BeginsWith count a told left
-      longer (Ok z) (b, l, (more, e)) = (b, l, (more ++ post_of 0 (length work - (1 + lead) - 0) held, ap (λ y. y ++ post_of 0 (length work - (1 + lead) - 0) held) e ∙ append_assoc (flat_of z) more _))
+      longer (Ok z) (b, l, (more, e)) = (b, l, (more ++ drop (length work - lead) held, ap (λ y. y ++ drop (length work - lead) held) e ∙ append_assoc (flat_of z) more _))
       longer (Err y) b = b
 
-      pub goes_on : (length others ≡ 0 → ⊥) → Merges (between (1 + lead) (length others) others) (take (length work - (1 + lead) - 0) held) count told rest → Merges others work count told left
+      pub goes_on : (length others ≡ 0 → ⊥) → Merges (between lead (length others) others) (take (length work - lead) held) count told rest → Merges others work count told left
       goes_on z j [] n free e t f l k = absurd (z (ap length e))
       goes_on z j (w ∷ ws) n free e t f l k =
           let u = cut_there w ws n free e t f l k in
@@ -166,11 +164,11 @@ module _ {P F : Type 0} (T : Theory P F) where
               let fl = u.front_long in
               let fs = u.front_same in
               let o = length-append (flat_of w) (flat ws) in
-              let put : held ≡ u.front ++ mid = put_is T work mid (room - (1 + lead)) 0 u.front (u.back ++ flat_of n) u.both_are u.front_long in
+              let put : held ≡ u.front ++ mid = put_is T work mid (room - lead) 0 u.front (u.back ++ flat_of n) u.both_are u.front_long in
               let shown : held ≡ (u.front ++ map (under n.name) s.0) ++ map (under w.name) s.1 = put ∙ ap (λ y. u.front ++ y) p.1 ∙ sym (append_assoc u.front (map (under n.name) s.0) (map (under w.name) s.1)) in
-              let part_is : take (length work - (1 + lead) - 0) held ≡ u.front ++ map (under n.name) s.0 =
-              ap (take (length work - (1 + lead) - 0)) shown ∙ take_at (u.front ++ map (under n.name) s.0) (map (under w.name) s.1) (length work - (1 + lead) - 0)
+              let part_is : take (length work - lead) held ≡ u.front ++ map (under n.name) s.0 =
+              ap (take (length work - lead)) shown ∙ take_at (u.front ++ map (under n.name) s.0) (map (under w.name) s.1) (length work - lead)
               (length-append u.front (map (under n.name) s.0) ∙ omega arith) in
-              let others_are : between (1 + lead) (length others) others ≡ flat ws =
-              between_to_end others (1 + lead) (length others) (omega arith) ∙ ap (drop (1 + lead)) e ∙ drop_at (flat_of w) (flat ws) (1 + lead) (omega arith) in
+              let others_are : between lead (length others) others ≡ flat ws =
+              between_to_end others lead (length others) (omega arith) ∙ ap (drop lead) e ∙ drop_at (flat_of w) (flat ws) lead (omega arith) in
               longer (merged (patches T) (λ w. w.name) ws (under n.name s.0)) (j ws (under n.name s.0) u.front others_are t.2 part_is fs long)

@@ -1,7 +1,7 @@
 -- The first changes of a row, passed over the others.
-use Rattle.std.proofs.Common.{◌≡◌, ℕ, ◌+◌, ◌-◌, ◌<◌, ◌≤◌, List, [], ◌∷◌, ◌++◌, length, get_or, take, drop, Ok, Err, Result, sym, refl, ap, ◌∙◌, subst, append_assoc, arith, length-append}
-use borrow.Rule.Slice.PartMut.{put_mid, post_of}
-use Rattle.std.proofs.lemmas.List.{take_at, drop_at, get_or_at, append-nil, drop_all, length-drop, length-map}
+use Rattle.std.proofs.Common.{◌≡◌, ℕ, ◌+◌, ◌-◌, ◌<◌, List, [], ◌∷◌, ◌++◌, length, get_or, take, drop, Ok, Err, Result, sym, refl, ap, ◌∙◌, subst, append_assoc, arith, length-append}
+use borrow.Rule.Slice.PartMut.{put_mid}
+use Rattle.std.proofs.lemmas.List.{take_at, drop_at, append-nil, drop_all, length-drop, length-map}
 use Rattle.std.proofs.lemmas.Slice.{between_to_end}
 use Rattle.std.specs.List.{between}
 use Rattle.kinds.specs.declared.answers.Clash.{Clash}
@@ -10,7 +10,7 @@ use Rattle.kinds.specs.Theory.{Theory}
 use Rattle.kinds.specs.Parts.{part}
 use Rattle.kinds.specs.Sequences.{and_then, answer_over}
 use Rattle.rows.specs.Pass.{Carried, Passed}
-use Rattle.rows.proofs.NextCarried.{front_is, as_many, others_are, put_back}
+use Rattle.rows.proofs.NextCarried.{lent_is, next_is, as_many, one_more, put_back}
 use Rattle.rows.proofs.Carrying.{Tried, clash}
 use Rattle.histories.specs.declared.Stop.{Stop}
 use Rattle.histories.specs.declared.named.Named.{Named}
@@ -24,54 +24,102 @@ module _ {P F : Type 0} (T : Theory P F) where
   abbrev Passes : List (Named P) → ℕ → Result (Unit {0}) Stop → List (Named P) → Type 0
   Passes row m r left = (ps qs : List (Named P)) → row ≡ ps ++ qs → length ps ≡ m → Passed (passing_by T ps qs) r left
 
-  module _ (row : List (Named P)) (m : ℕ) where
-    pub over_none : length row ≤ m → Passes row m (Ok tt) row
-    over_none h ps [] e l = (refl, e ∙ append-nil ps)
-    over_none h ps (q ∷ qs) e l = absurd (let n = ap length e ∙ length-append ps (q ∷ qs) in omega arith)
+  -- with some in front
+  abbrev ahead : List (Named P) → Result (List (Named P) × List (Named P)) Stop → Result (List (Named P) × List (Named P)) Stop
+  ahead front r = and_then r (λ (qs, ps). Ok (front ++ qs, ps))
 
-    module _ (mid rest : List (Named P)) (r : Result (Unit {0}) Stop) where
-      -- the row after the first commute
-      abbrev held : List (Named P)
-      held = mid ++ post_of 0 (m + 1 - 0) row
+  -- The changes ps pass over qs. They were passed over the first n of these, and the row is `row` now.
+  pub record Along (ps qs row : List (Named P)) (n : ℕ) : Type 0 where
+    pub front : List (Named P)
+    pub passing_on : List (Named P)
+    pub later : List (Named P)
+    pub parts : row ≡ front ++ (passing_on ++ later)
+    pub so_many : length front ≡ n
+    pub as_many : length passing_on ≡ length ps
+    pub same : passing_by T ps qs ≡ ahead front (passing_by T passing_on later)
 
-      pub over_next : Tried (named T) (take (m + 1 - 0) row) (Ok tt) mid → length mid ≡ length (take (m + 1 - 0) row) → m < length row
-          → Passes (take (length row - 1) (drop 1 held)) m r rest → Passes row m r (put_mid 1 (length row - 1) held rest)
-      over_next h k n i ps [] e l = absurd (let z = ap length e ∙ length-append ps [] in omega arith)
-      over_next h k n i ps (q ∷ qs) e l = on (answer_over (named T) ps q) (h ps q (front_is row m ps q qs e l))
-        where
-          on : (a : Result (Named P × List (Named P)) Clash) → Carried a (Ok tt) mid
-              → Passed (and_then (part (λ s. s) (stopped_at (λ p. p.name) q) a) (λ (q', ps'). and_then (passing_by T ps' qs) (λ (qs', ps''). Ok (q' ∷ qs', ps'')))) r (put_mid 1 (length row - 1) held rest)
-          on (Err d) j = absurd (clash (sym j))
-          on (Ok s) j =
-              subst (λ z. Passed (and_then (passing_by T s.1 qs) (λ (qs', ps''). Ok (s.0 ∷ qs', ps''))) r z) (sym (put_back row m ps q qs e l mid s.0 s.1 j.1 k rest))
-              (at (passing_by T s.1 qs) (i s.1 qs (others_are row m ps q qs e l mid s.0 s.1 j.1 k) (as_many row m ps q qs e l mid s.0 s.1 j.1 k)))
-            where
-              at : (b : Result (List (Named P) × List (Named P)) Stop) → Passed b r rest → Passed (and_then b (λ (qs', ps''). Ok (s.0 ∷ qs', ps''))) r (s.0 ∷ rest)
-              at (Ok t) x = (x.0, ap (λ z. s.0 ∷ z) x.1)
-              at (Err c) x = x
+  abbrev pub Passing : List (Named P) → ℕ → List (Named P) → ℕ → Type 0
+  Passing was m row n = (ps qs : List (Named P)) → was ≡ ps ++ qs → length ps ≡ m → Along ps qs row n
 
-    pub stopped_first : (mid left : List (Named P)) (c : Clash) (x : Named P) (stop : Stop) → m < length row → Tried (named T) (take (m + 1 - 0) row) (Err c) mid
-        → stop ≡ stopped_at (λ n. n) (get_or row m x).name c → Passes row m (Err stop) left
-    stopped_first mid left c x stop n h f ps [] e l = absurd (let z = ap length e ∙ length-append ps [] in omega arith)
-    stopped_first mid left c x stop n h f ps (q ∷ qs) e l = on (answer_over (named T) ps q) (h ps q (front_is row m ps q qs e l))
+  module _ (was : List (Named P)) (m : ℕ) where
+    pub none_passed : Passing was m was 0
+    none_passed ps qs e l = record { front = []; passing_on = ps; later = qs; parts = e; so_many = refl; as_many = refl; same = on (passing_by T ps qs) }
       where
-        told : (d : Clash) → stopped_at (λ n. n) q.name d ≡ stopped_at (λ (p : Named P). p.name) q d
-        told Refused = refl
-        told TooFar = refl
+        on : (r : Result (List (Named P) × List (Named P)) Stop) → r ≡ ahead [] r
+        on (Ok s) = refl
+        on (Err x) = refl
 
-        next_is : get_or row m x ≡ q
-        next_is = ap (λ z. get_or z m x) e ∙ get_or_at ps q qs x m l
+    module _ (row : List (Named P)) (n : ℕ) (passing : Passing was m row n) where
+      long : (ps qs : List (Named P)) → length ps ≡ m → (along : Along ps qs row n) → length row ≡ n + m + length along.later
+      long ps qs l along =
+          ap length along.parts ∙ length-append along.front (along.passing_on ++ along.later)
+          ∙ (let a = length-append along.passing_on along.later in let b = along.so_many in let c = along.as_many in omega arith)
 
-        on : (a : Result (Named P × List (Named P)) Clash) → Carried a (Err c) mid
-            → Passed (and_then (part (λ s. s) (stopped_at (λ p. p.name) q) a) (λ (q', ps'). and_then (passing_by T ps' qs) (λ (qs', ps''). Ok (q' ∷ qs', ps'')))) (Err stop) left
-        on (Ok s) j = absurd (clash j.0)
-        on (Err d) j = let z : c ≡ d = cc in ap Err (f ∙ ap (λ w. stopped_at (λ n. n) w.name c) next_is ∙ told c ∙ ap (stopped_at (λ (p : Named P). p.name) q) z)
+      -- the next of the others
+      module _ (h : n + m < length row) (x : Named P) (a : Result (Unit {0}) Clash) (mid : List (Named P)) (tried : Tried (named T) (between n (n + m + 1) row) a mid) where
+        -- what it is, and what is known of it
+        abbrev Next : (ps qs : List (Named P)) → Along ps qs row n → Type 0
+        Next ps qs along = (c : Named P) × (cs : List (Named P)) × (along.later ≡ c ∷ cs) × (row ≡ along.front ++ (along.passing_on ++ c ∷ cs)) × (length along.front + length along.passing_on ≡ n + m)
+
+        next : (ps qs : List (Named P)) → length ps ≡ m → (along : Along ps qs row n) → Next ps qs along
+        next ps qs l along = on along.later refl
+          where
+            on : (later : List (Named P)) → along.later ≡ later → Next ps qs along
+            on [] z = absurd (let a = long ps qs l along in let b = ap length z in omega arith)
+            on (c ∷ cs) z = (c, cs, z, along.parts ∙ ap (λ y. along.front ++ (along.passing_on ++ y)) z, let a = along.so_many in let b = along.as_many in omega arith)
+
+        -- what they answer, if this one answers b
+        abbrev then_others : List (Named P) → Named P → List (Named P) → Result (Named P × List (Named P)) Clash → Result (List (Named P) × List (Named P)) Stop
+        then_others front c cs b =
+            ahead front (and_then (part (λ s. s) (stopped_at (λ p. p.name) c) b) (λ (q', ps'). and_then (passing_by T ps' cs) (λ (qs', ps''). Ok (q' ∷ qs', ps''))))
+
+        pub stopped : (stop : Stop) (left : List (Named P)) → part (λ u. u) (stopped_at (λ n. n) (get_or row (n + m) x).name) a ≡ Err stop → Passes was m (Err stop) left
+        stopped stop left f ps qs e l =
+            let along = passing ps qs e l in
+            let (c, cs, z, parts, far) = next ps qs l along in
+            subst (λ r. Passed r (Err stop) left) (sym (along.same ∙ ap (λ y. ahead along.front (passing_by T along.passing_on y)) z))
+            (on along c cs a (ap (λ y. part (λ (u : Unit {0}). u) (stopped_at (λ n. n) y.name) a) (sym (next_is row along.front along.passing_on c cs n (n + m) parts along.so_many far x)) ∙ f)
+            (answer_over (named T) along.passing_on c) (tried along.passing_on c (lent_is row along.front along.passing_on c cs n (n + m) parts along.so_many far)))
+          where
+            told : (c : Named P) (d : Clash) → stopped_at (λ n. n) c.name d ≡ stopped_at (λ (p : Named P). p.name) c d
+            told c Refused = refl
+            told c TooFar = refl
+
+            on : (along : Along ps qs row n) (c : Named P) (cs : List (Named P)) (a : Result (Unit {0}) Clash) → part (λ u. u) (stopped_at (λ n. n) c.name) a ≡ Err stop
+                → (b : Result (Named P × List (Named P)) Clash) → Carried b a mid → Passed (then_others along.front c cs b) (Err stop) left
+            on along c cs (Ok u) f b j = absurd (let z : ◌≡◌ {A = ℕ} 0 1 = cc in omega arith)
+            on along c cs (Err y) f (Ok s) j = absurd (clash j.0)
+            on along c cs (Err y) f (Err d) j = let z : y ≡ d = cc in sym f ∙ ap Err (told c y ∙ ap (stopped_at (λ (p : Named P). p.name) c) z)
+
+        pub one_passed : a ≡ Ok tt → length mid ≡ length (between n (n + m + 1) row) → Passing was m (put_mid n (n + m + 1 - n) row mid) (n + 1)
+        one_passed e k ps qs i l =
+            let along = passing ps qs i l in
+            let (c, cs, z, parts, far) = next ps qs l along in
+            on along c cs z parts far (answer_over (named T) along.passing_on c) refl (tried along.passing_on c (lent_is row along.front along.passing_on c cs n (n + m) parts along.so_many far))
+          where
+            moved : (front : List (Named P)) (q : Named P) (r : Result (List (Named P) × List (Named P)) Stop) → ahead front (and_then r (λ (qs', ps''). Ok (q ∷ qs', ps''))) ≡ ahead (front ++ q ∷ []) r
+            moved front q (Ok t) = ap (λ y. Ok (y, t.1)) (sym (append_assoc front (q ∷ []) t.0))
+            moved front q (Err x) = refl
+
+            on : (along : Along ps qs row n) (c : Named P) (cs : List (Named P)) → along.later ≡ c ∷ cs → row ≡ along.front ++ (along.passing_on ++ c ∷ cs) → length along.front + length along.passing_on ≡ n + m
+                → (b : Result (Named P × List (Named P)) Clash) → answer_over (named T) along.passing_on c ≡ b → Carried b a mid → Along ps qs (put_mid n (n + m + 1 - n) row mid) (n + 1)
+            on along c cs z parts far (Err d) f j = absurd (clash (sym j ∙ e))
+            on along c cs z parts far (Ok s) f (_, j) =
+                record {
+                  front = along.front ++ s.0 ∷ [];
+                  passing_on = s.1;
+                  later = cs;
+                  parts = put_back row along.front along.passing_on c cs n (n + m) parts along.so_many far mid s.0 s.1 j k;
+                  so_many = one_more row along.front along.passing_on c cs n (n + m) parts along.so_many far mid s.0 s.1 j k;
+                  as_many = as_many row along.front along.passing_on c cs n (n + m) parts along.so_many far mid s.0 s.1 j k ∙ along.as_many;
+                  same = along.same ∙ ap (λ y. ahead along.front (passing_by T along.passing_on y)) z ∙ ap (then_others along.front c cs) f ∙ moved along.front s.0 (passing_by T s.1 cs);
+                }
 
   -- a patch of a row, passed over all behind it
   module _ (row rest : List (Named P)) (start count : ℕ) where
     -- all from start on was lent, and written back
-    lent_is : (before behind : List (Named P)) → row ≡ before ++ behind → length before ≡ start → between start (length row) row ≡ behind
-    lent_is before behind e l = between_to_end row start (length row) (omega arith) ∙ ap (drop start) e ∙ drop_at before behind start l
+    behind_is : (before behind : List (Named P)) → row ≡ before ++ behind → length before ≡ start → between start (length row) row ≡ behind
+    behind_is before behind e l = between_to_end row start (length row) (omega arith) ∙ ap (drop start) e ∙ drop_at before behind start l
 
     pub put_is : (before behind : List (Named P)) → row ≡ before ++ behind → length before ≡ start → put_mid start (length row - start) row rest ≡ before ++ rest
     put_is before behind e l =
@@ -89,7 +137,7 @@ module _ {P F : Type 0} (T : Theory P F) where
       pub at_end : part (λ u. length row - count) (λ x. x) r ≡ told → Passes (between start (length row) row) count r rest → Ends
       at_end i j before p h e l k =
           subst (λ z. ToEnd before z told (put_mid start (length row - start) row rest)) (passing_flat T p h)
-          (on (passing_by T (flat_of p) (flat h)) refl (j (flat_of p) (flat h) (lent_is before (flat_of p ++ flat h) e l) (length-map p.changes (under p.name) ∙ k)))
+          (on (passing_by T (flat_of p) (flat h)) refl (j (flat_of p) (flat h) (behind_is before (flat_of p ++ flat h) e l) (length-map p.changes (under p.name) ∙ k)))
         where
           on : (a : Result (List (Named P) × List (Named P)) Stop) → passing_by T (flat_of p) (flat h) ≡ a → Passed a r rest → ToEnd before a told (put_mid start (length row - start) row rest)
           on (Err x) f m = sym i ∙ ap (part (λ u. length row - count) (λ x. x)) m
@@ -100,7 +148,3 @@ module _ {P F : Type 0} (T : Theory P F) where
                 sym i ∙ ap (part (λ u. length row - count) (λ x. x)) m.0 ∙ ap Ok n,
                 put_is before (flat_of p ++ flat h) e l ∙ ap (λ z. before ++ z) m.1 ∙ sym (append_assoc before s.0 s.1),
               )
-
-    pub past_end : (left : List (Named P)) (told : Result ℕ Stop) → length row < start → (before : List (Named P)) (p : Named (List P)) (h : List (Named (List P)))
-        → row ≡ before ++ (flat_of p ++ flat h) → length before ≡ start → length p.changes ≡ count → ToEnd before (flat_both (passed (patches T) (λ w. w.name) p h)) told left
-    past_end left told n before p h e l k = absurd (let z = ap length e ∙ length-append before (flat_of p ++ flat h) in omega arith)

@@ -6,7 +6,7 @@ ghost use Rattle.kinds.specs.Sequences.{inverses, sequences};
 ghost use Rattle.rows.specs.Pass.{Passed};
 ghost use Rattle.histories.specs.declared.named.Named.{Named as Under};
 ghost use Rattle.histories.specs.Named.{under, patches};
-ghost use Rattle.histories.specs.History.{stopped_at, passed as history_passed, merged};
+ghost use Rattle.histories.specs.History.{passed as history_passed, merged};
 ghost use Rattle.histories.specs.Flat.{flat_of, flat, flat_both, ToEnd, OtherName, ToldApart, BeginsWith, passing_by};
 
 use crate::Stop;
@@ -14,50 +14,35 @@ use crate::named::{Labelled, Named};
 use kinds::answers::Clash;
 use kinds::kind::Kind;
 use rows::pass::{carry_left, pass_over};
-
-// What stops a patch at one of this name.
-fn stop_at(name: u8, clash: Clash) -> Stop
-    ensures { result ≡ stopped_at (λ n. n) name clash }
-{
-    match clash {
-        Clash::Refused => Stop::By(name),
-        Clash::TooFar => Stop::TooFar,
-    }
-}
+use rows::place::Place;
 
 // The first `count` changes of the row commute right over all others, and stand last then. The first that refuses them
 // is told by its name, and the row is of no more use then.
 fn pass_rest<K: Kind>(row: &mut [Named<K::Patch>], count: usize) -> Result<(), Stop>
     ensures { (ps qs : List (Under K.Patch)) → row.old ≡ ps ++ qs → length ps ≡ count → Passed (passing_by K.Kind.theory ps qs) result row.new }
 {
-    let n = row.len();
-    if n <= count {
-        return Ok(());
+    // By places, since each turn lends the neighbours one place further, and no iterator lends those again.
+    for start in 0..row.len().saturating_sub(count) {
+        let name = row[start + count].name;
+        let carried = carry_left::<Labelled<K>>(&mut row[start..=start + count]);
+        carried.map_err(|clash| Stop::at(name, clash))?;
     }
-    let name = row[count].name;
-    match carry_left::<Labelled<K>>(&mut row[0..count + 1]) {
-        Ok(()) => pass_rest::<K>(&mut row[1..n], count),
-        Err(clash) => Err(stop_at(name, clash)),
-    }
+    Ok(())
 }
 
-// The patch whose changes are the `count` from the place `start` on passes over all later patches. The answer is the
-// number of changes that then stand in front of it. Where a patch refuses it, the row is of no more use.
-pub fn pass_to_end<K: Kind>(
-    row: &mut [Named<K::Patch>],
-    start: usize,
-    count: usize,
-) -> Result<usize, Stop>
+// The patch whose changes stand at the place passes over all later patches. The answer is the number of changes that
+// then stand in front of it. Where a patch refuses it, the row is of no more use.
+pub fn pass_to_end<K: Kind>(row: &mut [Named<K::Patch>], place: Place) -> Result<usize, Stop>
     ensures { (before : List (Under K.Patch)) (p : Under (List K.Patch)) (h : List (Under (List K.Patch)))
-        → row.old ≡ before ++ (flat_of p ++ flat h) → length before ≡ start → length p.changes ≡ count
+        → row.old ≡ before ++ (flat_of p ++ flat h) → length before ≡ place.start → length p.changes ≡ place.count
         → ToEnd before (flat_both (history_passed (patches K.Kind.theory) (λ w. w.name) p h)) result row.new }
 {
     let n = row.len();
-    if n < start {
+    if n < place.start {
         return Ok(n);
     }
-    pass_rest::<K>(&mut row[start..n], count)?;
-    Ok(n.saturating_sub(count))
+    pass_rest::<K>(&mut row[place.start..], place.count)?;
+    Ok(n.saturating_sub(place.count))
 }
 
 // How many changes at the front of the row have the name.
@@ -65,46 +50,31 @@ pub fn leading<K: Kind>(row: &[Named<K::Patch>], name: u8) -> usize
     ensures counted { (cs : List K.Patch) (behind : List (Under K.Patch)) → row.now ≡ map (under name) cs ++ behind → OtherName name behind → result ≡ length cs }
     ensures within { result ≤ length row.now }
 {
-    let n = row.len();
-    if n == 0 {
-        return 0;
-    }
-    if row[0].name != name {
-        return 0;
-    }
-    1 + leading::<K>(&row[1..n], name)
+    row.iter().take_while(|change| change.name == name).count()
 }
 
 // Writes the inverses of the patches into a row that is as long, in reverse order.
 fn invert_into<K: Kind>(patches: &[K::Patch], row: &mut [K::Patch])
-    ensures { length row.old ≡ length patches.now → row.new ≡ inverses K.Kind.theory patches.now }
+    requires { length row.old ≡ length patches.now }
+    ensures { row.new ≡ inverses K.Kind.theory patches.now }
 {
-    let n = patches.len();
-    if n == 0 {
-        return;
+    row.copy_from_slice(patches);
+    row.reverse();
+    for patch in row.iter_mut() {
+        *patch = K::invert(*patch);
     }
-    if row.len() < n {
-        return;
-    }
-    row[n - 1] = K::invert(patches[0]);
-    invert_into::<K>(&patches[1..n], &mut row[0..n - 1]);
 }
 
 // Writes the inverse of the patches over the front of the row. What stands behind commutes left over it, and stands
 // first then. Where it is stopped, the row is of no more use.
 fn merge_one<K: Kind>(patches: &[K::Patch], row: &mut [K::Patch]) -> Result<(), Clash>
+    requires { length patches.now ≤ length row.old }
     ensures { (free ns : List K.Patch) → row.old ≡ free ++ ns → length free ≡ length patches.now
         → Passed (answer (sequences K.Kind.theory) (inverses K.Kind.theory patches.now) ns) result row.new }
 {
-    let j = patches.len();
-    if row.len() < j {
-        return Ok(());
-    }
-    invert_into::<K>(patches, &mut row[0..j]);
-    match pass_over::<K>(row, j) {
-        Ok(()) => Ok(()),
-        Err(stop) => Err(stop.fault),
-    }
+    let count = patches.len();
+    invert_into::<K>(patches, &mut row[..count]);
+    pass_over::<K>(row, count).map_err(|stop| stop.fault)
 }
 
 // The last `count` changes of the work row are a patch that stands where the history in `others` begins. It is merged
@@ -120,19 +90,15 @@ pub fn merge<K: Kind>(
         → others.now ≡ flat ws → ToldApart ws → work.old ≡ free ++ flat_of n → length free ≡ length (flat ws) → length n.changes ≡ count
         → BeginsWith count (merged (patches K.Kind.theory) (λ w. w.name) ws n) result work.new }
 {
-    let k = others.len();
-    let m = work.len();
-    let room = m.saturating_sub(count);
-    if k == 0 {
-        return Ok(());
-    }
-    if room < k {
+    let end = work.len();
+    let room = end.saturating_sub(count);
+    if others.is_empty() || room < others.len() {
         return Ok(());
     }
     let name = others[0].name;
-    let j = 1 + leading::<K>(&others[1..k], name);
-    match merge_one::<Labelled<K>>(&others[0..j], &mut work[room - j..m]) {
-        Ok(()) => merge::<K>(&others[j..k], &mut work[0..m - j], count),
-        Err(clash) => Err(stop_at(name, clash)),
-    }
+    let first = leading::<K>(others, name);
+    let merged = merge_one::<Labelled<K>>(&others[..first], &mut work[room - first..]);
+    merged.map_err(|clash| Stop::at(name, clash))?;
+    // The recursion stays: a loop would have to keep both shorter rows in variables.
+    merge::<K>(&others[first..], &mut work[..end - first], count)
 }

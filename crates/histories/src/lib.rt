@@ -3,13 +3,16 @@
 
 ghost use Rattle.histories.specs.Agreement.{HistoriesAgree};
 
+use kinds::answers::Clash;
 use kinds::kind::Kind;
+use std::error::Error;
+use std::fmt;
 
 pub mod flat;
 pub mod named;
 
 // What stops a patch on its way through a history.
-#[derive(Clone, Copy)]
+#[derive(Clone, Copy, Debug, PartialEq, Eq)]
 pub enum Stop {
     // It does not commute with the patch of this name.
     By(u8),
@@ -17,8 +20,49 @@ pub enum Stop {
     TooFar,
 }
 
+impl Stop {
+    ghost use Rattle.std.specs.Prelude.{◌≡◌};
+    ghost use Rattle.histories.specs.History.{stopped_at};
+
+    // What stops a patch at the patch of this name.
+    pub(crate) fn at(name: u8, clash: Clash) -> Stop
+        ensures { result ≡ stopped_at (λ n. n) name clash }
+    {
+        match clash {
+            Clash::Refused => Stop::By(name),
+            Clash::TooFar => Stop::TooFar,
+        }
+    }
+}
+
+impl fmt::Display for Stop {
+    fn fmt<W: fmt::Write>(&self, f: &mut fmt::Formatter<W>) -> fmt::Result {
+        match self {
+            Stop::By(name) => write!(f, "refused by patch {name}"),
+            Stop::TooFar => write!(f, "a commute is too far"),
+        }
+    }
+}
+
+impl Error for Stop {}
+
 // In every run any two histories with the same names show the same document, each of them can be replayed, and no
 // commute that a step asks for is too far.
 pub fn histories_agree<K: Kind>()
     ensures { HistoriesAgree K.Kind.theory }
 {}
+
+#[cfg(test)]
+mod tests {
+    use super::*;
+    use std::test::Fail;
+
+    #[test]
+    fn a_stop_tells_what_stopped(rt: HostRuntime) -> Result<(), Fail> {
+        let by = format!(in rt.alloc(); "{}", Stop::By(3))?;
+        assert_eq!(rt; by.as_str(), "refused by patch 3");
+        let far = format!(in rt.alloc(); "{}", Stop::TooFar)?;
+        assert_eq!(rt; far.as_str(), "a commute is too far");
+        Ok(())
+    }
+}

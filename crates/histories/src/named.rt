@@ -6,7 +6,7 @@ use kinds::answers::{Clash, Failure};
 use kinds::kind::Kind;
 
 // What a patch does, and the name of the patch.
-#[derive(Clone, Copy)]
+#[derive(Clone, Copy, Debug, PartialEq, Eq)]
 pub struct Named<X> {
     pub name: u8,
     pub changes: X,
@@ -24,23 +24,7 @@ impl<K: Kind> Kind for Labelled<K> {
 
     ghost theory = { the_named K.Kind.theory };
 
-    ghost undo = { (named_lawful K.Kind.theory K.lawful).undo };
-
-    ghost swap_back = { (named_lawful K.Kind.theory K.lawful).swap_back };
-
-    ghost same_effect = { (named_lawful K.Kind.theory K.lawful).same_effect };
-
-    ghost turning = { (named_lawful K.Kind.theory K.lawful).turning };
-
-    ghost three = { (named_lawful K.Kind.theory K.lawful).three };
-
-    ghost growth = { (named_lawful K.Kind.theory K.lawful).grows };
-
-    ghost reach = { (named_lawful K.Kind.theory K.lawful).reach };
-
-    ghost stays_written = { (named_lawful K.Kind.theory K.lawful).stays_written };
-
-    ghost held_in_words = { (named_lawful K.Kind.theory K.lawful).held_in_words };
+    ghost lawful = { named_lawful K.Kind.theory K.lawful };
 
     fn words() -> u32 {
         K::words()
@@ -56,8 +40,8 @@ impl<K: Kind> Kind for Labelled<K> {
 
     fn invert(p: Named<K::Patch>) -> Named<K::Patch> {
         Named {
-            name: p.name,
             changes: K::invert(p.changes),
+            ..p
         }
     }
 
@@ -67,16 +51,7 @@ impl<K: Kind> Kind for Labelled<K> {
         q: Named<K::Patch>,
     ) -> Result<(Named<K::Patch>, Named<K::Patch>), Clash> {
         let (b, a) = K::commute(p.changes, q.changes)?;
-        Ok((
-            Named {
-                name: q.name,
-                changes: b,
-            },
-            Named {
-                name: p.name,
-                changes: a,
-            },
-        ))
+        Ok((Named { changes: b, ..q }, Named { changes: a, ..p }))
     }
 
     fn apply(p: Named<K::Patch>, run: &mut [u32]) -> Result<(), Failure<K::Fault>> {

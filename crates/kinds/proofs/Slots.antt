@@ -1,10 +1,9 @@
 -- Lists of slots: one slot read and set, and their words.
 use Rattle.std.proofs.Common.{◌≡◌, ℕ, zero, suc, ◌+◌, ◌*◌, ◌<◌, ◌≤◌, Bool, true, ◌&&◌, eqb, ◌↔◌, List, [], ◌∷◌, ◌++◌, length, set, replicate, Some, sum_by, sym, refl, ap, ◌∙◌, append_assoc, suc-mul, zero-mul, arith, length-append}
-use Rattle.std.specs.List.{AllByRecursion, slice_get, flat_map}
+use Rattle.std.specs.List.{AllByRecursion, slice_get, flat_map, list_all}
 use Rattle.std.proofs.lemmas.List.{replicate-append-replicate}
 use Rattle.std.proofs.lemmas.List.Sums.{sum_by-cons}
 use Rattle.std.proofs.lemmas.Bool.{and_parts, and_from, eqb-true, eq-eqb}
-use Rattle.kinds.specs.Slots.{every}
 use Rattle.kinds.proofs.Cases.{some_one, none_some}
 use Rattle.kinds.proofs.Joins.{append_apart}
 
@@ -97,14 +96,14 @@ module _ {X : Type 0} {fresh : X} {blank : X → Bool} {size : X → ℕ} {fits 
   all_zeros (suc n) = ap (λ l. l ++ flat_map encode (replicate n fresh)) h.starts.2 ∙ ap (λ l. replicate w 0 ++ l) (all_zeros n)
       ∙ replicate-append-replicate w (n * w) 0 ∙ ap (λ k. replicate k 0) (one_more n)
 
-  every_fresh : (n : ℕ) → every blank (replicate n fresh) ≡ true
+  every_fresh : (n : ℕ) → list_all blank (replicate n fresh) ≡ true
   every_fresh zero = refl
   every_fresh (suc n) = and_from _ _ ((h.tells_fresh fresh).1 refl) (every_fresh n)
 
-  from_every : (d : List X) → every blank d ≡ true → d ≡ replicate (length d) fresh
+  from_every : (d : List X) → list_all blank d ≡ true → d ≡ replicate (length d) fresh
   from_every [] e = refl
   from_every (x ∷ d) e =
-      let s = and_parts (blank x) (every blank d) e in
+      let s = and_parts (blank x) (list_all blank d) e in
       let a = (h.tells_fresh x).0 s.0 in
       let b = from_every d s.1 in
       λ i. a i ∷ b i
@@ -124,11 +123,11 @@ module _ {X : Type 0} {fresh : X} {blank : X → Bool} {size : X → ℕ} {fits 
       λ i. u i ∷ v i
 
   -- n slots hold as one does
-  pub slots_hold : (n : ℕ) → Holds (replicate n fresh) (λ d. eqb (length d) n && every blank d) (sum_by size) (λ d. (length d ≡ n) × AllByRecursion fits d) (n * w) (flat_map encode)
+  pub slots_hold : (n : ℕ) → Holds (replicate n fresh) (λ d. eqb (length d) n && list_all blank d) (sum_by size) (λ d. (length d ≡ n) × AllByRecursion fits d) (n * w) (flat_map encode)
   slots_hold n = record {
     starts = (all_fresh n, no_size n, all_zeros n);
     tells_fresh = λ d. (
-      λ e. let s = and_parts (eqb (length d) n) (every blank d) e in
+      λ e. let s = and_parts (eqb (length d) n) (list_all blank d) e in
           from_every d s.1 ∙ ap (λ k. replicate k fresh) (eqb-true (length d) n s.0),
       λ e. rw e (and_from _ _ (eq-eqb _ n (all_fresh n).0) (every_fresh n)),
     );

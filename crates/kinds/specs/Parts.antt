@@ -1,5 +1,5 @@
 -- A layer's answer, from the answer of the kind below it.
-use Rattle.std.specs.Prelude.{Some, None, Ok, Err, Option, Result}
+use Rattle.std.specs.Prelude.{◌≡◌, Some, None, Ok, Err, Option, Result}
 use Rattle.kinds.specs.declared.answers.Failure.{Failure}
 use Rattle.kinds.specs.declared.answers.Failure.TheVariants.{Length, Overfull, Fault}
 
@@ -18,6 +18,12 @@ abbrev pub fault_or_failure : {F G : Type 0} → Failure F → Result F (Failure
 fault_or_failure Length = Err Length
 fault_or_failure Overfull = Err Overfull
 fault_or_failure (Fault f) = Ok f
+
+-- the same failure, its fault told as R says
+abbrev pub FaultMapped : {F G : Type 0} → (F → G → Type 0) → Failure F → Failure G → Type 0
+FaultMapped R Length r = r ≡ Length
+FaultMapped R Overfull r = r ≡ Overfull
+FaultMapped R (Fault f) r = (g : _) × (r ≡ Fault g) × R f g
 
 -- a failure with its place added, if it is a fault
 abbrev pub failing : {U F G : Type 0} → (F → G) → Result U (Failure F) → Result U (Failure G)

@@ -1,10 +1,5 @@
 -- Documents that are a list of slots, whose words are those of the slots, one after the other, all of one width.
-use Rattle.std.specs.Prelude.{◌≡◌, ℕ, ◌+◌, ◌*◌, Bool, true, false, ◌&&◌, List, [], ◌∷◌, take, drop, Some, None, Option}
-
--- a test holds of every slot
-abbrev pub every : {X : Type 0} → (X → Bool) → List X → Bool
-every t [] = true
-every t (x ∷ xs) = t x && every t xs
+use Rattle.std.specs.Prelude.{◌≡◌, ℕ, ◌+◌, ◌*◌, Bool, false, List, take, drop, Some, None, Option}
 
 -- a slot is there and a test holds of it
 abbrev pub passing : {X : Type 0} → (X → Bool) → Option X → Bool

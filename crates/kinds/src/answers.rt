@@ -1,9 +1,12 @@
 // What stops a commute or an application.
 ghost use Rattle.std.specs.Prelude.{◌≡◌};
-ghost use Rattle.kinds.specs.Parts.{fault_or_failure};
+ghost use Rattle.kinds.specs.Parts.{FaultMapped, fault_or_failure};
+
+use std::error::Error;
+use std::fmt;
 
 // Why two neighbouring patches were not commuted.
-#[derive(Clone, Copy)]
+#[derive(Clone, Copy, Debug, PartialEq, Eq)]
 pub enum Clash {
     // The two depend on each other.
     Refused,
@@ -11,8 +14,19 @@ pub enum Clash {
     TooFar,
 }
 
+impl fmt::Display for Clash {
+    fn fmt<W: fmt::Write>(&self, f: &mut fmt::Formatter<W>) -> fmt::Result {
+        match self {
+            Clash::Refused => write!(f, "the patches depend on each other"),
+            Clash::TooFar => write!(f, "a number would be too large to be written"),
+        }
+    }
+}
+
+impl Error for Clash {}
+
 // Why a patch was not applied to the words of a document.
-#[derive(Clone, Copy)]
+#[derive(Clone, Copy, Debug, PartialEq, Eq)]
 pub enum Failure<F> {
     // The run is not as long as the kind's words.
     Length,
@@ -31,6 +45,18 @@ impl<F> Failure<F> {
             Failure::Length => Err(Failure::Length),
             Failure::Overfull => Err(Failure::Overfull),
             Failure::Fault(fault) => Ok(fault),
+        }
+    }
+
+    // The same failure, its fault told as `tell` does: a layer adds its place.
+    pub fn map<G, T: FnOnce(F) -> G>(self, tell: T) -> Failure<G>
+        requires { T.IsAlwaysCallable tell }
+        ensures { FaultMapped (T.post tell) self result }
+    {
+        match self {
+            Failure::Length => Failure::Length,
+            Failure::Overfull => Failure::Overfull,
+            Failure::Fault(fault) => Failure::Fault(tell(fault)),
         }
     }
 }

@@ -37,34 +37,25 @@ pub trait Kind {
     fn apply(p: Self::Patch, run: &mut [u32]) -> Result<(), Failure<Self::Fault>>
         ensures { Applied theory p run.old result run.new };
 
-    ghost undo: { Undo theory };
+    // All laws in one record, which is what an impl proves.
+    ghost lawful: { Lawful theory };
 
-    ghost swap_back: { SwapBack theory };
+    // Each law by its own name. None is for an impl to write.
+    ghost undo: { Undo theory } = { lawful.undo };
 
-    ghost same_effect: { SameEffect theory };
+    ghost swap_back: { SwapBack theory } = { lawful.swap_back };
 
-    ghost turning: { Turning theory };
+    ghost same_effect: { SameEffect theory } = { lawful.same_effect };
 
-    ghost three: { Three theory };
+    ghost turning: { Turning theory } = { lawful.turning };
 
-    ghost growth: { Growth theory };
+    ghost three: { Three theory } = { lawful.three };
 
-    ghost reach: { Reach theory };
+    ghost growth: { Growth theory } = { lawful.grows };
 
-    ghost stays_written: { StaysWritten theory };
+    ghost reach: { Reach theory } = { lawful.reach };
 
-    ghost held_in_words: { HeldInWords theory };
+    ghost stays_written: { StaysWritten theory } = { lawful.stays_written };
 
-    // All laws in one record. It follows from those above, and no impl writes it.
-    ghost lawful: { Lawful theory } = { record {
-      undo = undo;
-      swap_back = swap_back;
-      same_effect = same_effect;
-      turning = turning;
-      three = three;
-      grows = growth;
-      reach = reach;
-      stays_written = stays_written;
-      held_in_words = held_in_words;
-    } };
+    ghost held_in_words: { HeldInWords theory } = { lawful.held_in_words };
 }

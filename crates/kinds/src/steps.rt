@@ -1,12 +1,12 @@
 // The steps of a patch that is made of several.
 ghost use Rattle.std.specs.Prelude.{◌≡◌};
-ghost use Rattle.kinds.specs.Parts.{failing};
+ghost use Rattle.kinds.specs.Parts.{failing, FaultMapped};
 ghost use Rattle.kinds.specs.Sequences.{found_at};
 
 use crate::answers::Failure;
 
 // A fault, and the number of the step, from 0, at which it was found.
-#[derive(Clone, Copy)]
+#[derive(Clone, Copy, Debug, PartialEq, Eq)]
 pub struct AtStep<F> {
     pub step: usize,
     pub fault: F,
@@ -16,11 +16,9 @@ pub struct AtStep<F> {
 pub fn at_step<F>(step: usize, r: Result<(), Failure<F>>) -> Result<(), Failure<AtStep<F>>>
     ensures { result ≡ failing (found_at step) r }
 {
-    match r {
-        Ok(()) => Ok(()),
-        Err(failure) => Err(Failure::Fault(AtStep {
-            step,
-            fault: failure.fault()?,
-        })),
-    }
+    r.map_err(
+        |failure|
+            ensures { FaultMapped (λ f x. x ≡ found_at step f) failure result }
+        { failure.map(|fault| AtStep { step, fault }) },
+    )
 }

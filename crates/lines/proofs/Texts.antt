@@ -1,37 +1,12 @@
 -- The bytes of note lines.
-use Rattle.std.proofs.Common.{◌≡◌, ℕ, zero, suc, ◌+◌, ◌-◌, ◌<◌, ◌≤◌, Bool, true, false, cond, not, ◌&&◌, ◌||◌, eqb, List, [], ◌∷◌, ◌++◌, length, get_or, drop, replicate, sym, refl, ap, ◌∙◌, ⊎_elim, arith}
-use Rattle.std.proofs.lemmas.Bool.{cases_lt, cond-true, cond-false}
-use Rattle.std.proofs.lemmas.List.{drop_more, drop_all, get_or_past, at_drop_more, at_drop_all}
-use Rattle.lines.specs.Note.{zeros, text_byte, text_and_zeros, padded}
+use Rattle.std.proofs.Common.{◌≡◌, ℕ, zero, suc, ◌+◌, ◌-◌, ◌<◌, ◌≤◌, Bool, cond, List, [], ◌∷◌, ◌++◌, length, get_or, drop, replicate, ap, ◌∙◌, ⊎_elim, arith}
+use Rattle.std.proofs.lemmas.Bool.{cases_lt}
+use Rattle.std.proofs.lemmas.List.{drop_more, drop_all, get_or_past}
+use Rattle.lines.specs.Note.{zeros, text_and_zeros, padded}
 
 -- what the rest of a note's bytes must be, behind zeros or not
 abbrev pub rest_fits : Bool → List ℕ → Bool
 rest_fits ended bs = cond ended (zeros bs) (text_and_zeros bs)
-
-pub rest_more : (ended : Bool) (b : ℕ) (bs : List ℕ) → rest_fits ended (b ∷ bs) ≡ cond (eqb b 0 || (not ended && text_byte b)) (rest_fits (eqb b 0) bs) false
-rest_more ended b bs = go ended (eqb b 0) (text_byte b)
-  where
-    go : (ended zero text : Bool) → cond ended (zero && zeros bs) (cond zero (zeros bs) (text && text_and_zeros bs)) ≡ cond (zero || (not ended && text)) (rest_fits zero bs) false
-    go true true text = refl
-    go true false text = refl
-    go false true text = refl
-    go false false true = refl
-    go false false false = refl
-
-module _ (ended : Bool) (bs : List ℕ) (i : ℕ) where
-  -- one byte on, if it may stand there
-  pub rest_goes_on : i < length bs → true ≡ eqb (get_or bs i 0) 0 || (not ended && text_byte (get_or bs i 0)) → rest_fits ended (drop i bs) ≡ rest_fits (eqb (get_or bs i 0) 0) (drop (i + 1) bs)
-  rest_goes_on l h = at_drop_more (rest_fits ended) bs i 0 l ∙ rest_more ended (get_or bs i 0) (drop (i + 1) bs) ∙ cond-true (eqb (get_or bs i 0) 0 || (not ended && text_byte (get_or bs i 0))) (rest_fits (eqb (get_or bs i 0) 0) (drop (i + 1) bs)) false (sym h)
-
-  pub rest_stops : i < length bs → false ≡ eqb (get_or bs i 0) 0 || (not ended && text_byte (get_or bs i 0)) → rest_fits ended (drop i bs) ≡ false
-  rest_stops l h = at_drop_more (rest_fits ended) bs i 0 l ∙ rest_more ended (get_or bs i 0) (drop (i + 1) bs) ∙ cond-false (eqb (get_or bs i 0) 0 || (not ended && text_byte (get_or bs i 0))) (rest_fits (eqb (get_or bs i 0) 0) (drop (i + 1) bs)) false (sym h)
-
-  pub rest_ends : length bs ≤ i → rest_fits ended (drop i bs) ≡ true
-  rest_ends l = at_drop_all (rest_fits ended) bs i l ∙ go ended
-    where
-      go : (t : Bool) → cond t true true ≡ true
-      go true = refl
-      go false = refl
 
 -- n bytes of a text from the place i on, with zeros behind it
 abbrev pub reads : ℕ → ℕ → List ℕ → List ℕ

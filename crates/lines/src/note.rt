@@ -2,10 +2,11 @@ ghost use Rattle.std.specs.Prelude.{◌≡◌, ◌+◌, ◌<◌, not, ◌&&◌, 
 ghost use Rattle.lines.specs.Note.{note_form, note_bytes, note_of, word_at, word_bytes, padded, text_byte, text_and_zeros};
 ghost use Rattle.std.proofs.Common.{rules};
 
-use crate::line::Line;
+use crate::line::{Line, WrongLength};
 
-// A note line: sixteen bytes in four words, the first byte lowest.
-#[derive(Clone, Copy)]
+// A note line: sixteen bytes in four words, the first byte lowest. It has four fields and no array of four words, since
+// an array has any length in a law, where every value is to be read back the same.
+#[derive(Clone, Copy, Debug, PartialEq, Eq)]
 pub struct Note {
     pub first: u32,
     pub second: u32,
@@ -20,7 +21,7 @@ const BYTES: usize = 16;
 fn byte_or_zero(text: &[u8], at: usize) -> u8
     ensures { result ≡ slice_index text.now at }
 {
-    if at < text.len() { text[at] } else { 0 }
+    text.get(at).copied().unwrap_or(0)
 }
 
 // The word of four bytes of a text, from a place on.
@@ -59,6 +60,8 @@ fn is_text_and_zeros(bytes: &[u8]) -> bool
 }
 
 impl Note {
+    // The two conversions have names, as `from_le_bytes` of a number has: a `From` would not say which bytes it reads.
+
     // The note with the bytes of a text of at most sixteen bytes. It can be written if they are bytes of text.
     pub fn from_bytes(text: &[u8]) -> Option<Note>
         ensures value { result ≡ (if nat_le (length text.now) 16 then Some (note_of text.now) else None) }
@@ -94,43 +97,35 @@ impl Line for Note {
 
     ghost read_back = { Prim.search rules };
 
+    ghost compared = { Prim.search rules };
+
     ghost tells_same = { Prim.search rules };
 
     fn words() -> u32 {
         4
     }
 
-    fn write(self, run: &mut [u32]) -> bool {
+    fn write(self, run: &mut [u32]) -> Result<(), WrongLength> {
         if run.len() != 4 {
-            return false;
+            return Err(WrongLength);
         }
-        run[0] = self.first;
-        run[1] = self.second;
-        run[2] = self.third;
-        run[3] = self.fourth;
-        true
+        run.copy_from_slice(&[self.first, self.second, self.third, self.fourth]);
+        Ok(())
     }
 
     fn read(run: &[u32]) -> Option<Note> {
-        if run.len() != 4 {
-            return None;
+        match run {
+            [first, second, third, fourth] => Some(Note {
+                first: *first,
+                second: *second,
+                third: *third,
+                fourth: *fourth,
+            }),
+            _ => None,
         }
-        Some(Note {
-            first: run[0],
-            second: run[1],
-            third: run[2],
-            fourth: run[3],
-        })
     }
 
     fn writable(self) -> bool {
         is_text_and_zeros(&self.bytes())
-    }
-
-    fn same_as(self, other: Note) -> bool {
-        self.first == other.first
-            && self.second == other.second
-            && self.third == other.third
-            && self.fourth == other.fourth
     }
 }

@@ -1,10 +1,10 @@
 ghost use Rattle.lines.specs.Rule.{rule_form};
 ghost use Rattle.std.proofs.Common.{rules};
 
-use crate::line::Line;
+use crate::line::{Line, WrongLength};
 
 // A rule line: one word of any value.
-#[derive(Clone, Copy)]
+#[derive(Clone, Copy, Debug, PartialEq, Eq)]
 pub struct Rule(pub u32);
 
 impl Line for Rule {
@@ -14,32 +14,30 @@ impl Line for Rule {
 
     ghost read_back = { Prim.search rules };
 
+    ghost compared = { Prim.search rules };
+
     ghost tells_same = { Prim.search rules };
 
     fn words() -> u32 {
         1
     }
 
-    fn write(self, run: &mut [u32]) -> bool {
-        let fits = run.len() == 1;
-        if fits {
-            run[0] = self.0;
+    fn write(self, run: &mut [u32]) -> Result<(), WrongLength> {
+        if run.len() != 1 {
+            return Err(WrongLength);
         }
-        fits
+        run.fill(self.0);
+        Ok(())
     }
 
     fn read(run: &[u32]) -> Option<Rule> {
-        if run.len() != 1 {
-            return None;
+        match run {
+            [rule] => Some(Rule(*rule)),
+            _ => None,
         }
-        Some(Rule(run[0]))
     }
 
     fn writable(self) -> bool {
         true
-    }
-
-    fn same_as(self, other: Rule) -> bool {
-        self.0 == other.0
     }
 }

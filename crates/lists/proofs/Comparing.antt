@@ -1,8 +1,8 @@
 -- The old lines of a hunk, compared with the words of a list.
-use Rattle.std.proofs.Common.{◌≡◌, ℕ, ◌+◌, ◌-◌, ◌*◌, ◌<◌, ◌≤◌, Bool, true, false, cond, ◌&&◌, eqb, ltb, List, [], ◌∷◌, ◌++◌, length, take, drop, replicate, Some, None, Ok, Err, Option, Result, sym, refl, ap, ◌∙◌, add-mul, arith, length-append, length-drop, length-take}
+use Rattle.std.proofs.Common.{◌≡◌, ℕ, ◌+◌, ◌-◌, ◌*◌, ◌<◌, ◌≤◌, Bool, true, false, cond, ltb, List, [], ◌∷◌, ◌++◌, length, take, drop, replicate, Some, None, Ok, Err, Option, Result, sym, refl, ap, ◌∙◌, add-mul, arith, length-append, length-drop, length-take}
 use Rattle.std.specs.List.{flat_map}
-use Rattle.std.proofs.lemmas.Bool.{eq-eqb, le-leb}
-use Rattle.std.proofs.lemmas.List.{append-nil, take_at, drop_at, take-append-drop, length-take-le, take_rest}
+use Rattle.std.proofs.lemmas.Bool.{le-leb}
+use Rattle.std.proofs.lemmas.List.{take_at, drop_at, take-append-drop, length-take-le}
 use Rattle.kinds.specs.Bounded.{outcome, saturated, largest}
 use Rattle.kinds.specs.Laws.{most}
 use Rattle.kinds.specs.Parts.{part}
@@ -16,10 +16,6 @@ use Rattle.lists.specs.Hunk.{lines_of, count, first_differing, filled_up, lists}
 use Rattle.lists.specs.Proofs.Filling.{Fills, Reads, joined_three, length_joined}
 
 module _ {L : Type 0} (F : Form L) where
-  -- whether a run holds a line, as the code tells it
-  abbrev pub held : List ℕ → L → Bool
-  held run l = eqb (length run) F.width && F.same l (F.decode run)
-
   -- only as many lines as there are old ones are compared
   pub first_differing_front : (at : ℕ) (os ds : List L) → length os ≤ length ds → first_differing F at os (take (length os) ds) ≡ first_differing F at os ds
   first_differing_front at [] ds l = refl
@@ -45,28 +41,6 @@ module _ {L : Type 0} (F : Form L) where
       rw (le-leb (h.start + count h.old) (length d) l, sym f) (ap (next_or_fault None) k ∙ by_room (ltb most (length e)) e)
 
 module _ {L : Type 0} (F : Form L) (fills : Fills F) (reads : Reads F) where
-  held_is : (l d : L) (run : List ℕ) → run ≡ F.encode d → held F run l ≡ F.same l d
-  held_is l d run e = rw (e, eq-eqb (length (F.encode d)) F.width (fills d), reads d)
-
-  pub one_differs : (a : L) (start : ℕ) (run : List ℕ) (t : Bool) (ds : List L) → t ≡ held F run a → length ds ≡ 1 → run ≡ flat_map F.encode ds
-      → cond t None (Some start) ≡ first_differing F start (a ∷ []) ds
-  one_differs a start run t [] h l e = absurd (omega arith)
-  one_differs a start run t (d ∷ []) h l e = rw (h, held_is a d run (e ∙ append-nil (F.encode d)))
-  one_differs a start run t (d ∷ (x ∷ ds)) h l e = absurd (omega arith)
-
-  pub two_differ : (a b : L) (start : ℕ) (run : List ℕ) (t u : Bool) (ds : List L)
-      → t ≡ held F (take (F.width - 0) run) a → u ≡ held F (take (length run - F.width) (drop F.width run)) b → length ds ≡ 2 → run ≡ flat_map F.encode ds
-      → cond t (cond u None (Some (start + 1))) (Some start) ≡ first_differing F start (a ∷ b ∷ []) ds
-  two_differ a b start run t u [] h k l e = absurd (omega arith)
-  two_differ a b start run t u (d ∷ []) h k l e = absurd (omega arith)
-  two_differ a b start run t u (d ∷ (x ∷ [])) h k l e =
-      let w = F.width in
-      let f : run ≡ F.encode d ++ F.encode x = e ∙ ap (λ r. F.encode d ++ r) (append-nil (F.encode x)) in
-      let p : take (w - 0) run ≡ F.encode d = ap (take (w - 0)) f ∙ take_at (F.encode d) (F.encode x) (w - 0) (omega (arith, fills d)) in
-      let q : take (length run - w) (drop w run) ≡ F.encode x = take_rest run w ∙ ap (drop w) f ∙ drop_at (F.encode d) (F.encode x) w (fills d) in
-      rw (h, k, held_is a d (take (w - 0) run) p, held_is b x (take (length run - w) (drop w run)) q)
-  two_differ a b start run t u (d ∷ (x ∷ (y ∷ ds))) h k l e = absurd (omega arith)
-
   -- the words of some lines in the middle of a list
   pub middle_words : (d : List L) (s o : ℕ) → s + o ≤ length d
       → take ((s + o) * F.width - s * F.width) (drop (s * F.width) (filled_up F d)) ≡ flat_map F.encode (take o (drop s d))

@@ -1,4 +1,3 @@
-pub mod Moves
 pub mod Comparing
 pub mod Replacing
 pub mod Applying

@@ -1,40 +1,16 @@
 -- The new lines of a hunk, written into the words of a list.
-use Rattle.std.proofs.Common.{◌≡◌, ℕ, ◌+◌, ◌-◌, ◌*◌, ◌<◌, ◌≤◌, max, cond, eqb, List, ◌++◌, length, take, drop, replicate, sym, refl, ap, ◌∙◌, append_assoc, mul-le-mul_right, mul_comm, add-mul, arith, length-append, length-drop, length-take}
+use Rattle.std.proofs.Common.{◌≡◌, ℕ, ◌+◌, ◌-◌, ◌*◌, ◌≤◌, max, List, ◌++◌, length, take, drop, replicate, sym, refl, ap, ◌∙◌, append_assoc, mul-le-mul_right, mul_comm, add-mul, arith, length-append, length-drop, length-take}
 use native.Mathlib.Nat.{mul-sub}
 use borrow.Rule.Slice.PartMut.{put_mid}
 use Rattle.std.specs.List.{flat_map}
-use Rattle.std.proofs.lemmas.Bool.{eq-eqb, cond-true}
-use Rattle.std.proofs.lemmas.List.{append-nil, length-replicate, replicate-append-replicate, take_at, drop_at}
-use Rattle.kinds.specs.Bounded.{saturated, largest}
+use Rattle.std.proofs.lemmas.List.{length-replicate, replicate-append-replicate, take_at, drop_at}
+use Rattle.kinds.specs.Bounded.{saturated}
 use Rattle.kinds.specs.Laws.{most}
-use Rattle.lists.specs.declared.hunk.Lines.TheVariants.{the_data as Lines, Two}
 use Rattle.lists.specs.declared.hunk.Hunk.{Hunk}
 use Rattle.lines.specs.Line.{Form}
 use Rattle.lists.specs.Hunk.{lines_of, count, filled_up}
 use Rattle.lists.specs.Proofs.Filling.{Fills, joined_three, length_joined}
 use Rattle.lists.specs.Proofs.Steps.{Step, sizes}
-use Rattle.lists.proofs.Moves.{two_written}
-
--- a run that is as long as a line is filled
-written : (w : ℕ) (run line left : List ℕ) → length run ≡ w → left ≡ cond (eqb (length run) w) line run → left ≡ line
-written w run line left l e = e ∙ cond-true (eqb (length run) w) line run (eq-eqb (length run) w l)
-
-module _ {L : Type 0} (F : Form L) (fills : Fills F) where
-  -- two lines at the front of a part; x and y are what the runs of the two hold after the writing
-  pub two_lines : (lines : Lines L) (a b : L) (w : ℕ) (run x y : List ℕ) → lines ≡ Two a b → w ≡ saturated F.width → F.width < largest → count lines * F.width ≤ length run
-      → x ≡ cond (eqb (length (take (w - 0) run)) F.width) (F.encode a) (take (w - 0) run)
-      → y ≡ cond (eqb (length (take (w + w - w) (drop w (x ++ drop (w - 0) run)))) F.width) (F.encode b) (take (w + w - w) (drop w (x ++ drop (w - 0) run)))
-      → put_mid w (w + w - w) (x ++ drop (w - 0) run) y ≡ flat_map F.encode (lines_of lines) ++ drop (count lines * F.width) run
-  two_lines lines a b w run x y is s small fits p q =
-      let v : w ≡ F.width = omega arith in
-      let l : 2 * F.width ≤ length run = rw is at fits in
-      let c : x ≡ F.encode a = written F.width (take (w - 0) run) (F.encode a) x (simp length-take (omega arith)) p in
-      let m : length x ≡ F.width = ap length c ∙ fills a in
-      let d : y ≡ F.encode b = written F.width (take (w + w - w) (drop w (x ++ drop (w - 0) run))) (F.encode b) y (simp (length-take, length-drop, length-append) (omega arith)) q in
-      let n : w + w ≡ 2 * F.width = omega arith in
-      two_written run x y w (omega arith) (ap length d ∙ fills b ∙ sym v)
-      ∙ (λ i. c i ++ (d i ++ drop (n i) run))
-      ∙ rw (is, append-nil (F.encode b)) (sym (append_assoc (F.encode a) (F.encode b) (drop (2 * F.width) run)))
 
 sub_mul : (m n k : ℕ) → (m - n) * k ≡ m * k - n * k
 sub_mul m n k = mul_comm (m - n) k ∙ mul-sub k m n ∙ (λ i. mul_comm k m i - mul_comm k n i)

@@ -26,10 +26,7 @@ pub fn list_words<L: Line>() -> u32
 fn holds<L: Line>(run: &[u32], line: L) -> bool
     ensures { result ≡ (length run.now == L.Line.form.width) && L.Line.form.same line (L.Line.form.decode run.now) }
 {
-    match L::read(run) {
-        Some(found) => line.same_as(found),
-        None => false,
-    }
+    L::read(run).is_some_and(|found| line == found)
 }
 
 // The first place whose line is not the old one. The run holds as many lines as there are old ones, from the place `start` on.
@@ -101,12 +98,13 @@ fn write_lines<L: Line>(lines: Lines<L>, run: &mut [u32])
     let width = L::words() as usize;
     match lines {
         Lines::Zero => {}
+        // Each run is as long as a line, so no write is refused.
         Lines::One(a) => {
-            a.write(&mut run[0..width]);
+            let _ = a.write(&mut run[0..width]);
         }
         Lines::Two(a, b) => {
-            a.write(&mut run[0..width]);
-            b.write(&mut run[width..width + width]);
+            let _ = a.write(&mut run[0..width]);
+            let _ = b.write(&mut run[width..width + width]);
         }
     }
 }

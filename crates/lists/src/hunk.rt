@@ -6,8 +6,8 @@ ghost use Rattle.lists.specs.Hunk.{lines_of, count as count_of, moved as moved_t
 use kinds::answers::Clash;
 use lines::line::Line;
 
-// No line, one or two.
-#[derive(Clone, Copy)]
+// No line, one or two. An enum and no vector, so that a third line cannot be written down.
+#[derive(Clone, Copy, Debug, PartialEq, Eq)]
 pub enum Lines<L> {
     Zero,
     One(L),
@@ -15,7 +15,7 @@ pub enum Lines<L> {
 }
 
 // Puts the new lines in the place of the old ones, which stand from the line `start` on.
-#[derive(Clone, Copy)]
+#[derive(Clone, Copy, Debug, PartialEq, Eq)]
 pub struct Hunk<L> {
     pub start: u16,
     pub old: Lines<L>,
@@ -23,7 +23,7 @@ pub struct Hunk<L> {
 }
 
 // What a hunk can find wrong with a list.
-#[derive(Clone, Copy)]
+#[derive(Clone, Copy, Debug, PartialEq, Eq)]
 pub enum ListFault {
     // The old lines would end past the end of the list, which has so many lines.
     PastEnd { length: u32 },
@@ -59,13 +59,7 @@ impl<L: Line> Hunk<L> {
     pub fn moved(self, to: u32) -> Result<Hunk<L>, Clash>
         ensures { result ≡ (if nat_lt last_start to then Err TooFar else Ok (moved_to self to)) }
     {
-        if to > u16::MAX as u32 {
-            return Err(Clash::TooFar);
-        }
-        Ok(Hunk {
-            start: to as u16,
-            old: self.old,
-            new: self.new,
-        })
+        let start = u16::try_from(to).map_err(|_| Clash::TooFar)?;
+        Ok(Hunk { start, ..self })
     }
 }

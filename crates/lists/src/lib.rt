@@ -25,23 +25,7 @@ impl<L: Line> Kind for Lists<L> {
 
     ghost theory = { the_lists L.Line.form };
 
-    ghost undo = { (lists_lawful L.Line.form L.filled L.read_back L.tells_same).undo };
-
-    ghost swap_back = { (lists_lawful L.Line.form L.filled L.read_back L.tells_same).swap_back };
-
-    ghost same_effect = { (lists_lawful L.Line.form L.filled L.read_back L.tells_same).same_effect };
-
-    ghost turning = { (lists_lawful L.Line.form L.filled L.read_back L.tells_same).turning };
-
-    ghost three = { (lists_lawful L.Line.form L.filled L.read_back L.tells_same).three };
-
-    ghost growth = { (lists_lawful L.Line.form L.filled L.read_back L.tells_same).grows };
-
-    ghost reach = { (lists_lawful L.Line.form L.filled L.read_back L.tells_same).reach };
-
-    ghost stays_written = { (lists_lawful L.Line.form L.filled L.read_back L.tells_same).stays_written };
-
-    ghost held_in_words = { (lists_lawful L.Line.form L.filled L.read_back L.tells_same).held_in_words };
+    ghost lawful = { lists_lawful L.Line.form L.filled L.read_back L.tells_same };
 
     fn words() -> u32 {
         list_words::<L>()
@@ -57,9 +41,9 @@ impl<L: Line> Kind for Lists<L> {
 
     fn invert(p: Hunk<L>) -> Hunk<L> {
         Hunk {
-            start: p.start,
             old: p.new,
             new: p.old,
+            ..p
         }
     }
 

@@ -1,55 +1,42 @@
--- Changes written into a row that is as long.
-use Rattle.std.proofs.Common.{◌≡◌, ℕ, ◌+◌, ◌-◌, ◌⊎◌, List, [], ◌∷◌, ◌++◌, map, length, get_or, take, drop, set, sym, refl, ap, ◌∙◌, inl, inr, arith}
-use borrow.Rule.Slice.PartMut.{put_mid, post_of}
-use Rattle.std.specs.List.{between}
-use Rattle.std.proofs.lemmas.List.{length-map, length-set, length-take-le, nil_from_length, take_all, drop_all, drop-set, map_push}
+-- The inverse of changes, each under a name.
+use Rattle.std.proofs.Common.{◌≡◌, ℕ, suc, ◌-◌, ◌<◌, ◌≤◌, ◌⊎◌, List, [], ◌∷◌, ◌++◌, map, length, get_or, sym, ap, ◌∙◌, inl, inr, arith}
+use Rattle.std.proofs.lemmas.Bool.{cases_lt}
+use Rattle.std.proofs.lemmas.List.{length-map, get_or-map, get_or_append_left}
+use Rattle.std.proofs.Math.Seq.{get_or-append_seam}
 use Rattle.kinds.specs.Theory.{Theory}
 use Rattle.kinds.specs.Sequences.{inverses}
 use Rattle.kinds.proofs.Sequences.{inverses_length}
-use Rattle.rows.proofs.Rests.{rest_is, put_rest}
 use Rattle.histories.specs.declared.named.Named.{Named}
 use Rattle.histories.specs.Named.{under}
 
--- The row is empty, or of another length than is asked for.
-pub none_written : {A : Type 0} (row xs : List A) (n : ℕ) → length xs ≡ n → (length row ≡ 0) ⊎ ((length row ≡ 0 → ⊥) × (n ≡ length row → ⊥)) → length row ≡ n → row ≡ xs
-none_written row xs n l (inl z) e = nil_from_length row z ∙ sym (nil_from_length xs (omega arith))
-none_written row xs n l (inr (_, d)) e = absurd (d (sym e))
+module _ {P F : Type 0} (T : Theory P F) where
+  -- The inverse at a place is that of the change as far from the end.
+  inverse_at : (cs : List P) (i : ℕ) (d e : P) → i < length cs → get_or (inverses T cs) i e ≡ T.invert (get_or cs (length cs - 1 - i) d)
+  inverse_at [] i d e h = absurd (omega arith)
+  inverse_at (c ∷ cs) i d e h = on (cases_lt i (length cs)) (inverse_at cs i d e)
+    where
+      on : (i < length cs) ⊎ (length cs ≤ i) → (i < length cs → get_or (inverses T cs) i e ≡ T.invert (get_or cs (length cs - 1 - i) d))
+          → get_or (inverses T (c ∷ cs)) i e ≡ T.invert (get_or (c ∷ cs) (length (c ∷ cs) - 1 - i) d)
+      on (inl l) k =
+          let j = inverses_length T cs in let z : length (c ∷ cs) - 1 - i ≡ suc (length cs - 1 - i) = omega arith in
+          get_or_append_left (inverses T cs) (T.invert c ∷ []) e i (omega arith) ∙ k l ∙ ap (λ n. T.invert (get_or (c ∷ cs) n d)) (sym z)
+      on (inr l) k =
+          let z : length (c ∷ cs) - 1 - i ≡ 0 = omega arith in let j : i ≡ length (inverses T cs) = omega (arith, inverses_length T cs) in
+          ap (λ n. get_or (inverses T cs ++ T.invert c ∷ []) n e) j ∙ get_or-append_seam (inverses T cs) (T.invert c) [] e ∙ ap (λ n. T.invert (get_or (c ∷ cs) n d)) (sym z)
 
-module _ {P : Type 0} (name : ℕ) where
-  -- The first change is written first, and the others behind it.
-  pub one_named : (cs : List P) (row rest : List (Named P)) (y : P) → (length row ≡ 0 → ⊥) → y ≡ get_or cs 0 y
-      → (length (between 1 (length row) (set row 0 (under name y))) ≡ length (between 1 (length row) cs) → rest ≡ map (under name) (between 1 (length row) cs))
-      → length row ≡ length cs → put_mid 1 (length row - 1) (set row 0 (under name y)) rest ≡ map (under name) cs
-  one_named cs [] rest y n f i e = absurd (n refl)
-  one_named [] (r ∷ row) rest y n f i e = absurd (omega arith)
-  one_named (c ∷ cs) (r ∷ row) rest y n f i e =
-      let behind : between 1 (length (r ∷ row)) (c ∷ cs) ≡ cs = take_all (length (r ∷ row) - 1) cs (omega arith) in
-      let l : length (between 1 (length (r ∷ row)) (under name y ∷ row)) ≡ length (between 1 (length (r ∷ row)) (c ∷ cs)) =
-      let k = ap length (rest_is (under name y) row) in let h = ap length behind in omega arith in
-      put_rest (under name y) row rest ∙ ap (λ z. under name z ∷ rest) f ∙ ap (λ z. under name c ∷ z) (i l ∙ ap (map (under name)) behind)
+  module _ (name : ℕ) (cs : List (Named P)) where
+    abbrev pub inverted : List (Named P)
+    inverted = map (under name) (inverses T (map (λ (c : Named P). c.changes) cs))
 
-module _ {P F : Type 0} (T : Theory P F) (name : ℕ) where
-  -- The inverse of changes, each under the name.
-  abbrev inverted : List (Named P) → List (Named P)
-  inverted cs = map (under name) (inverses T (map (λ (c : Named P). c.changes) cs))
+    pub inverted_length : length inverted ≡ length cs
+    inverted_length = length-map (inverses T (map (λ (c : Named P). c.changes) cs)) (under name) ∙ inverses_length T (map (λ (c : Named P). c.changes) cs) ∙ length-map cs (λ (c : Named P). c.changes)
 
-  pub inverted_length : (cs : List (Named P)) → length (inverted cs) ≡ length cs
-  inverted_length cs = length-map (inverses T (map (λ (c : Named P). c.changes) cs)) (under name) ∙ inverses_length T (map (λ (c : Named P). c.changes) cs) ∙ length-map cs (λ (c : Named P). c.changes)
-
-  -- The inverse of the first change is written last, and those of the others in front of it.
-  pub one_inverted : (cs row rest : List (Named P)) (y : Named P) (x : P) → (length row ≡ 0 → ⊥) → x ≡ T.invert (get_or cs 0 y).changes
-      → (length (take (length row - 1 - 0) (set row (length row - 1) (under name x))) ≡ length (between 1 (length row) cs) → rest ≡ inverted (between 1 (length row) cs))
-      → length row ≡ length cs → rest ++ post_of 0 (length row - 1 - 0) (set row (length row - 1) (under name x)) ≡ inverted cs
-  one_inverted cs [] rest y x n f i e = absurd (n refl)
-  one_inverted [] (r ∷ row) rest y x n f i e = absurd (omega arith)
-  one_inverted (c ∷ cs) (r ∷ row) rest y x n f i e =
-      let k : length (r ∷ row) - 1 - 0 ≡ length (r ∷ row) - 1 = omega arith in
-      let written = set (r ∷ row) (length (r ∷ row) - 1) (under name x) in
-      let behind : between 1 (length (r ∷ row)) (c ∷ cs) ≡ cs = take_all (length (r ∷ row) - 1) cs (omega arith) in
-      let l : length (take (length (r ∷ row) - 1 - 0) written) ≡ length (between 1 (length (r ∷ row)) (c ∷ cs)) =
-      let s = length-set (r ∷ row) (length (r ∷ row) - 1) (under name x) in
-      let t = length-take-le (length (r ∷ row) - 1 - 0) written (omega arith) in let h = ap length behind in omega arith in
-      let last : drop (length (r ∷ row) - 1 - 0) written ≡ under name x ∷ [] =
-      rw k (drop-set (r ∷ row) (length (r ∷ row) - 1) (under name x) (omega arith) ∙ ap (λ z. under name x ∷ z) (drop_all (length (r ∷ row) - 1 + 1) (r ∷ row) (omega arith))) in
-      ap (λ z. rest ++ z) last ∙ ap (λ z. z ++ under name x ∷ []) (i l ∙ ap inverted behind) ∙ ap (λ z. inverted cs ++ under name z ∷ []) f
-      ∙ sym (map_push (under name) (inverses T (map (λ (c : Named P). c.changes) cs)) (T.invert c.changes))
+    -- Its entry at a place.
+    pub inverted_at : (i : ℕ) (x y : Named P) → i < length inverted → get_or inverted i x ≡ under name (T.invert (get_or cs (length cs - 1 - i) y).changes)
+    inverted_at i x y h =
+        let l = length-map (inverses T (map (λ (c : Named P). c.changes) cs)) (under name) in let k = inverses_length T (map (λ (c : Named P). c.changes) cs) in
+        let m = length-map cs (λ (c : Named P). c.changes) in
+        get_or-map (under name) (inverses T (map (λ (c : Named P). c.changes) cs)) i x.changes x (omega arith)
+        ∙ ap (under name) (inverse_at (map (λ (c : Named P). c.changes) cs) i y.changes x.changes (omega arith)
+        ∙ ap (λ n. T.invert (get_or (map (λ (c : Named P). c.changes) cs) (n - 1 - i) y.changes)) m
+        ∙ ap T.invert (get_or-map (λ (c : Named P). c.changes) cs (length cs - 1 - i) y y.changes (omega arith)))

@@ -1,5 +1,5 @@
 -- What the rows of a shop hold after they were written to.
-use Rattle.std.specs.Prelude.{ℕ, ◌+◌, cond, ◌&&◌, List, [], ◌++◌, length, take, drop, nat_le, slice_index, slice_set}
+use Rattle.std.specs.Prelude.{◌≡◌, ℕ, ◌+◌, ◌<◌, cond, ◌&&◌, List, [], ◌++◌, length, take, drop, nat_le, slice_index, slice_index_or, slice_set}
 use Rattle.histories.specs.declared.named.Named.{Named}
 use Rattle.shop.specs.declared.shop.Shop.{Shop}
 use Rattle.shop.specs.Held.{rooms, rows_of, row_at}
@@ -21,6 +21,10 @@ module _ {A : Type 0} where
   abbrev pub covered : List A → List A → List A
   covered xs row = cond (nat_le (length xs) (length row)) (xs ++ drop (length xs) row) row
 
+  -- What is told of a place of xs is the entry there.
+  abbrev pub TellsEach : (ℕ → A → Type 0) → List A → Type 0
+  TellsEach told xs = (i : ℕ) (x : A) → i < length xs → told i x → x ≡ slice_index_or xs i x
+
 module _ {P : Type 0} where
   -- How many changes the row of repository r has room for.
   abbrev pub room_at : Shop P → ℕ → ℕ
@@ -33,3 +37,9 @@ module _ {P : Type 0} where
   -- The rows after that of repository r became the first `count` of other changes, likewise.
   abbrev pub replaced_at : Shop P → ℕ → List (Named P) → ℕ → List (List (Named P))
   replaced_at s r cs count = slice_set (rows_of s) r (replaced (room_at s r) (row_at s r) cs count)
+
+  -- The rows become these, and all else of the shop stays.
+  pub record RowsBecome (was left : Shop P) (new : List (List (Named P))) : Type 0 where
+    pub rows : rows_of left ≡ new
+    pub rooms : rooms left ≡ rooms was
+    pub counter : left.counter ≡ was.counter

@@ -1,11 +1,9 @@
 -- What applying leaves in the words of all modules, from what the kind below leaves in those of one.
-use Rattle.std.proofs.Common.{◌≡◌, ℕ, ◌+◌, ◌*◌, ◌<◌, ◌≤◌, true, ◌&&◌, eqb, ltb, List, ◌++◌, length, take, drop, set, Some, Err, Result, sym, refl, ap, ◌∙◌, arith, length-drop, length-take}
+use Rattle.std.proofs.Common.{◌≡◌, ℕ, ◌*◌, ◌<◌, true, ◌&&◌, eqb, ltb, List, ◌++◌, length, take, drop, set, Some, Result, sym, refl, ap, ◌∙◌, arith, length-drop, length-take}
 use borrow.Rule.Slice.PartMut.{put_mid}
 use Rattle.std.specs.List.{slice_get, flat_map}
-use Rattle.std.proofs.lemmas.Option.{slice_get_past}
 use Rattle.std.proofs.lemmas.Bool.{and_from, eq-eqb, lt-ltb, true≢false}
 use Rattle.kinds.specs.declared.answers.Failure.{Failure}
-use Rattle.kinds.specs.declared.answers.Failure.TheVariants.{Fault}
 use Rattle.kinds.specs.Theory.{Theory}
 use Rattle.kinds.specs.Bounded.{Applied, roomy, outcome, holding, largest, saturated}
 use Rattle.kinds.specs.Laws.{Lawful}
@@ -14,7 +12,7 @@ use Rattle.kinds.specs.Slots.{Around}
 use Rattle.kinds.proofs.Lending.{middle, put_middle, put_around, slot_end, roomy_slots, placed_outcome}
 use Rattle.kinds.proofs.Slots.{step_from, step_length, slot_of_all, all_after, slot_words, slot_there}
 use Rattle.modules.specs.declared.InModule.{InModule}
-use Rattle.modules.specs.declared.ModuleFault.TheVariants.{the_data as ModuleFault, NoModule, Inside}
+use Rattle.modules.specs.declared.ModuleFault.TheVariants.{the_data as ModuleFault, Inside}
 use Rattle.modules.specs.Modules.{modules}
 use Rattle.modules.specs.Proofs.ModuleLaws.{below}
 
@@ -37,22 +35,8 @@ module _ {P F : Type 0} (T : Theory P F) (l : Lawful T) (c : InModule P) (was : 
     width_is : (w : ℕ) → w ≡ saturated T.width → w ≡ T.width
     width_is w e = (roomy_slots 3 T.width (length was) all w (omega arith) room told e).2
 
-    -- the words of a module are within the run
-    pub module_within : (w : ℕ) → w ≡ saturated T.width → m < 3 → (m * w + w ≤ length was) × (length was < largest)
-    module_within w e h = let i = width_is w e in omega (arith, slot_end m 3 w h, long, few)
-
     is_roomy : roomy (modules T) (length was) ≡ true
     is_roomy = and_from _ _ (eq-eqb _ _ long) (lt-ltb _ _ few)
-
-    -- a module that is not there
-    pub no_module : 3 ≤ m → Shows (Err (Fault (NoModule c.«module»))) was
-    no_module h = record {
-      applied = record {
-        refused = λ e. absurd (true≢false (sym is_roomy ∙ e));
-        done = λ d f e _. (d, f, e, rw (slice_get_past d m (omega (arith, f.0))));
-      };
-      others = (refl, refl);
-    }
 
     -- a module's words, lent
     module _ (low : m < 3) (r : Result (Unit {0}) (Failure F)) (now : List ℕ) where

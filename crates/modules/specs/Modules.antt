@@ -1,9 +1,9 @@
 -- Modules: a document is a list of documents of the kind below, and a patch changes one of them.
 use Rattle.std.specs.Prelude.{◌≡◌, ◌*◌, Bool, false, cond, ◌&&◌, List, length, replicate, Some, None, Err, sum_by, Option, Result, ◌==◌, nat_lt, slice_set}
-use Rattle.std.specs.List.{AllByRecursion, slice_get, flat_map}
+use Rattle.std.specs.List.{AllByRecursion, slice_get, flat_map, list_all}
 use Rattle.kinds.specs.Theory.{Theory}
 use Rattle.kinds.specs.Parts.{both, part}
-use Rattle.kinds.specs.Slots.{every, passing}
+use Rattle.kinds.specs.Slots.{passing}
 use Rattle.modules.specs.declared.Module.{Module}
 use Rattle.modules.specs.declared.InModule.{InModule}
 use Rattle.modules.specs.declared.ModuleFault.TheVariants.{the_data as ModuleFault, NoModule, Inside}
@@ -37,7 +37,7 @@ module _ {P F : Type 0} (T : Theory P F) where
   modules = record {
     Doc = List T.Doc;
     fresh = replicate 3 T.fresh;
-    blank = λ d. (length d == 3) && every T.blank d;
+    blank = λ d. (length d == 3) && list_all T.blank d;
     size = sum_by T.size;
     apply = module_apply;
     invert = λ c. within c.«module» (T.invert c.patch);

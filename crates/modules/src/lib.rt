@@ -3,9 +3,7 @@
 
 ghost use Rattle.std.specs.Prelude.{◌≡◌, ◌*◌};
 ghost use Rattle.kinds.specs.Bounded.{Applied};
-ghost use Rattle.kinds.specs.Parts.{failing};
 ghost use Rattle.kinds.specs.Slots.{Around};
-ghost use Rattle.modules.specs.declared.ModuleFault.TheVariants.{Inside as inside};
 ghost use Rattle.modules.specs.Proofs.ModuleLaws.{modules_lawful};
 ghost use Rattle.modules.specs.Modules.{modules as the_modules};
 
@@ -13,18 +11,19 @@ use kinds::answers::{Clash, Failure};
 use kinds::counts::{roomy, total};
 use kinds::kind::Kind;
 
-// The number of a module: 0 basic, 1 winch, 2 tiller.
-#[derive(Clone, Copy)]
+// The number of a module: 0 basic, 1 winch, 2 tiller. A number and no enum, so that one that no module has can be told
+// and refused.
+#[derive(Clone, Copy, Debug, PartialEq, Eq)]
 pub struct Module(pub u8);
 
 // A patch of the kind below, in a module.
-#[derive(Clone, Copy)]
+#[derive(Clone, Copy, Debug, PartialEq, Eq)]
 pub struct InModule<P> {
     pub module: Module,
     pub patch: P,
 }
 
-#[derive(Clone, Copy)]
+#[derive(Clone, Copy, Debug, PartialEq, Eq)]
 pub enum ModuleFault<F> {
     // There is no module of this number.
     NoModule(Module),
@@ -39,16 +38,6 @@ pub struct Modules<K> {
 
 const COUNT: u8 = 3;
 
-// A failure from the module m, with its place added.
-fn at_module<F>(m: Module, r: Result<(), Failure<F>>) -> Result<(), Failure<ModuleFault<F>>>
-    ensures { result ≡ failing (inside m) r }
-{
-    match r {
-        Ok(()) => Ok(()),
-        Err(failure) => Err(Failure::Fault(ModuleFault::Inside(m, failure.fault()?))),
-    }
-}
-
 impl<K: Kind> Kind for Modules<K> {
     type Patch = InModule<K::Patch>;
 
@@ -56,23 +45,7 @@ impl<K: Kind> Kind for Modules<K> {
 
     ghost theory = { the_modules K.Kind.theory };
 
-    ghost undo = { (modules_lawful K.Kind.theory K.lawful).undo };
-
-    ghost swap_back = { (modules_lawful K.Kind.theory K.lawful).swap_back };
-
-    ghost same_effect = { (modules_lawful K.Kind.theory K.lawful).same_effect };
-
-    ghost turning = { (modules_lawful K.Kind.theory K.lawful).turning };
-
-    ghost three = { (modules_lawful K.Kind.theory K.lawful).three };
-
-    ghost growth = { (modules_lawful K.Kind.theory K.lawful).grows };
-
-    ghost reach = { (modules_lawful K.Kind.theory K.lawful).reach };
-
-    ghost stays_written = { (modules_lawful K.Kind.theory K.lawful).stays_written };
-
-    ghost held_in_words = { (modules_lawful K.Kind.theory K.lawful).held_in_words };
+    ghost lawful = { modules_lawful K.Kind.theory K.lawful };
 
     fn words() -> u32 {
         total(COUNT as u32, K::words(), 0)
@@ -88,8 +61,8 @@ impl<K: Kind> Kind for Modules<K> {
 
     fn invert(p: InModule<K::Patch>) -> InModule<K::Patch> {
         InModule {
-            module: p.module,
             patch: K::invert(p.patch),
+            ..p
         }
     }
 
@@ -97,19 +70,13 @@ impl<K: Kind> Kind for Modules<K> {
         p: InModule<K::Patch>,
         q: InModule<K::Patch>,
     ) -> Result<(InModule<K::Patch>, InModule<K::Patch>), Clash> {
-        if p.module.0 != q.module.0 {
+        if p.module != q.module {
             return Ok((q, p));
         }
         let (second, first) = K::commute(p.patch, q.patch)?;
         Ok((
-            InModule {
-                module: q.module,
-                patch: second,
-            },
-            InModule {
-                module: p.module,
-                patch: first,
-            },
+            InModule { patch: second, ..q },
+            InModule { patch: first, ..p },
         ))
     }
 
@@ -126,7 +93,8 @@ impl<K: Kind> Kind for Modules<K> {
         }
         let width = K::words() as usize;
         let at = p.module.0 as usize * width;
-        at_module(p.module, K::apply(p.patch, &mut run[at..at + width]))?;
-        Ok(())
+        K::apply(p.patch, &mut run[at..at + width]).map_err(|failure| failure.map(
+            |fault| ModuleFault::Inside(p.module, fault),
+        ))
     }
 }

@@ -11,6 +11,7 @@ use histories::flat::{leading, pass_to_end};
 use histories::named::{Labelled, Named};
 use kinds::kind::Kind;
 use rows::copy::copy_row;
+use rows::place::Place;
 
 // The first `first` changes of the row are a patch, and the others are a block, of whose patch the changes are the last
 // `count`. The patch is tried on the block. Where it passes over all of it, the row begins with the block as it stands
@@ -29,7 +30,11 @@ fn try_on_block<K: Kind>(
 {
     let before = row.len().saturating_sub(count);
     copy_row::<Labelled<K>>(row, work);
-    match pass_to_end::<K>(row, 0, first) {
+    let patch = Place {
+        start: 0,
+        count: first,
+    };
+    match pass_to_end::<K>(row, patch) {
         Ok(_) => Ok(before.saturating_sub(first)),
         Err(Stop::By(_name)) => {
             copy_row::<Labelled<K>>(work, row);
@@ -53,13 +58,13 @@ pub fn find_block<K: Kind>(
         → Found count (block (patches K.Kind.theory) (λ w. w.name) ps n) result row.new }
     ensures within { IfOk result (λ k. k ≤ length row.old - count) }
 {
-    let n = row.len();
-    let before = n.saturating_sub(count);
+    let before = row.len().saturating_sub(count);
     if before == 0 {
         return Ok(0);
     }
     let name = row[0].name;
-    let first = leading::<K>(row, name).min(before);
-    let needs = find_block::<K>(&mut row[first..n], work, count)?;
-    try_on_block::<K>(&mut row[0..first + needs + count], work, first, count)
+    let first = leading::<K>(&row[..before], name);
+    // The recursion stays: the last patch comes first, and where each one starts is only seen from the front.
+    let needs = find_block::<K>(&mut row[first..], work, count)?;
+    try_on_block::<K>(&mut row[..first + needs + count], work, first, count)
 }

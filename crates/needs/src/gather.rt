@@ -11,39 +11,11 @@ use kinds::answers::Clash;
 use kinds::kind::Kind;
 use rows::pass::carry_left;
 
-// Whether a change of the row has the name.
+// Whether a change of the row has the name. What `forms::find::holds` says of the patches of a row, by their names too.
 pub fn holds_name<K: Kind>(row: &[Named<K::Patch>], name: u8) -> bool
     ensures { result ≡ holds (λ c. c.name) row.now name }
 {
-    let n = row.len();
-    if n == 0 {
-        return false;
-    }
-    row[0].name == name || holds_name::<K>(&row[1..n], name)
-}
-
-// The first `others` changes of the row are not needed. Those behind them that have the name of a change in `needs`
-// commute left over the ones that are not needed, first one first, and stand in front then. The answer is their number.
-// Where one is stopped on the way, the row is of no more use.
-fn gather_behind<K: Kind>(
-    needs: &[Named<K::Patch>],
-    row: &mut [Named<K::Patch>],
-    others: usize,
-) -> Result<usize, Clash>
-    ensures { (us cs : List (Under K.Patch)) → row.old ≡ us ++ cs → length us ≡ others
-        → ComeFirst (gathered (named K.Kind.theory) (λ c. c.name) needs.now us cs) result row.new }
-{
-    let n = row.len();
-    if n <= others {
-        return Ok(0);
-    }
-    if holds_name::<K>(needs, row[others].name) {
-        carry_left::<Labelled<K>>(&mut row[0..others + 1])?;
-        let more = gather_behind::<K>(needs, &mut row[1..n], others)?;
-        Ok(more + 1)
-    } else {
-        gather_behind::<K>(needs, row, others + 1)
-    }
+    row.iter().any(|change| change.name == name)
 }
 
 // The patches of the row that have the name of a change in `needs` commute left over the others, first one first. They
@@ -57,5 +29,13 @@ pub fn gather<K: Kind>(
     ensures { (ws h : List (Under (List K.Patch))) → ((n : ℕ) → holds (λ w. w.name) ws n ≡ holds (λ c. c.name) needs.now n) → row.old ≡ flat h
         → Gathers (gathered (patches K.Kind.theory) (λ w. w.name) ws [] h) result row.new }
 {
-    gather_behind::<K>(needs, row, 0)
+    let mut needed = 0;
+    // By places, since each turn lends a part of the row, which no iterator over it allows.
+    for i in 0..row.len() {
+        if holds_name::<K>(needs, row[i].name) {
+            carry_left::<Labelled<K>>(&mut row[needed..=i])?;
+            needed += 1;
+        }
+    }
+    Ok(needed)
 }

@@ -4,8 +4,8 @@ use Rattle.kinds.specs.declared.answers.Clash.{Clash}
 use Rattle.kinds.specs.declared.steps.AtStep.{AtStep}
 use Rattle.rows.specs.Pass.{passing}
 use Rattle.product.specs.Controller.{Change, controller}
-use Rattle.options.specs.declared.fitting.Stuck.{Stuck}
-use Rattle.options.specs.declared.fitting.Stuck.TheVariants.{NoMemory, NoSuchOption, By}
+use Rattle.options.specs.declared.parts.Stuck.{Stuck}
+use Rattle.options.specs.declared.parts.Stuck.TheVariants.{NoMemory, NoSuchOption, By}
 use Rattle.options.specs.declared.parts.Part.{Part}
 
 abbrev pub count_of : Part → ℕ

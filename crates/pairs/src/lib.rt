@@ -12,7 +12,7 @@ use kinds::counts::total;
 use kinds::kind::Kind;
 use kinds::steps::{AtStep, at_step};
 
-#[derive(Clone, Copy)]
+#[derive(Clone, Copy, Debug, PartialEq, Eq)]
 pub enum Steps<P> {
     One(P),
     Two(P, P),
@@ -47,23 +47,7 @@ impl<K: Kind> Kind for Pairs<K> {
 
     ghost theory = { the_pairs K.Kind.theory };
 
-    ghost undo = { (pairs_lawful K.Kind.theory K.lawful).undo };
-
-    ghost swap_back = { (pairs_lawful K.Kind.theory K.lawful).swap_back };
-
-    ghost same_effect = { (pairs_lawful K.Kind.theory K.lawful).same_effect };
-
-    ghost turning = { (pairs_lawful K.Kind.theory K.lawful).turning };
-
-    ghost three = { (pairs_lawful K.Kind.theory K.lawful).three };
-
-    ghost growth = { (pairs_lawful K.Kind.theory K.lawful).grows };
-
-    ghost reach = { (pairs_lawful K.Kind.theory K.lawful).reach };
-
-    ghost stays_written = { (pairs_lawful K.Kind.theory K.lawful).stays_written };
-
-    ghost held_in_words = { (pairs_lawful K.Kind.theory K.lawful).held_in_words };
+    ghost lawful = { pairs_lawful K.Kind.theory K.lawful };
 
     fn words() -> u32 {
         K::words()

@@ -28,6 +28,9 @@ pub type Change = InModule<SheetChange<Steps<Step>>>;
 
 pub type ChangeFault = ModuleFault<SheetFault<AtStep<StepFault>>>;
 
+// The names of the modules, in the order of their numbers.
+pub const MODULE_NAMES: [&str; 3] = ["basic", "winch", "tiller"];
+
 // The number of words of a controller.
 pub fn controller_words() -> u32
     ensures { result ≡ 8004 }

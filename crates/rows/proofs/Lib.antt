@@ -1,4 +1,3 @@
-pub mod Rests
 pub mod Copying
 pub mod Carrying
 pub mod NextCarried

@@ -1,38 +1,37 @@
--- The patch behind the first m of a row, carried over these: what is lent for it, and what stands in the row then.
-use Rattle.std.proofs.Common.{◌≡◌, ℕ, ◌+◌, ◌-◌, List, [], ◌∷◌, ◌++◌, length, take, drop, sym, ap, ◌∙◌, append_assoc, arith, length-append}
-use borrow.Rule.Slice.PartMut.{put_mid, post_of}
-use Rattle.std.proofs.lemmas.List.{take_at, drop_at}
-use Rattle.rows.proofs.Rests.{rest_is, put_rest}
+-- A patch of a row, carried over some that stand in front of it: what is lent for it, and what stands in the row then.
+use Rattle.std.proofs.Common.{◌≡◌, ℕ, ◌+◌, ◌-◌, List, [], ◌∷◌, ◌++◌, length, get_or, take, drop, sym, ap, ◌∙◌, append_assoc, arith, length-append}
+use borrow.Rule.Slice.PartMut.{put_mid}
+use Rattle.std.specs.List.{between}
+use Rattle.std.proofs.lemmas.List.{take_at, drop_at, get_or_at}
 
-module _ {X : Type 0} (row : List X) (m : ℕ) (ps : List X) (q : X) (qs : List X) (e : row ≡ ps ++ q ∷ qs) (l : length ps ≡ m) where
-  first_part : length (ps ++ q ∷ []) ≡ m + 1 - 0
-  first_part = length-append ps (q ∷ []) ∙ omega arith
+-- c stands at the place i, behind the `others` from the place k on
+module _ {X : Type 0} (row front others : List X) (c : X) (cs : List X) (k i : ℕ) (parts : row ≡ front ++ (others ++ c ∷ cs)) (so_many : length front ≡ k) (so_far : length front + length others ≡ i) where
+  whole : row ≡ front ++ ((others ++ c ∷ []) ++ cs)
+  whole = parts ∙ ap (λ y. front ++ y) (sym (append_assoc others (c ∷ []) cs))
 
-  in_parts : row ≡ (ps ++ q ∷ []) ++ qs
-  in_parts = e ∙ sym (append_assoc ps (q ∷ []) qs)
+  behind_is : drop k row ≡ (others ++ c ∷ []) ++ cs
+  behind_is = ap (drop k) whole ∙ drop_at front ((others ++ c ∷ []) ++ cs) k so_many
 
-  pub front_is : take (m + 1 - 0) row ≡ ps ++ q ∷ []
-  front_is = ap (take (m + 1 - 0)) in_parts ∙ take_at (ps ++ q ∷ []) qs (m + 1 - 0) first_part
+  as_long : length (others ++ c ∷ []) ≡ i + 1 - k
+  as_long = length-append others (c ∷ []) ∙ omega arith
 
-  behind_is : post_of 0 (m + 1 - 0) row ≡ qs
-  behind_is = ap (drop (m + 1 - 0)) in_parts ∙ drop_at (ps ++ q ∷ []) qs (m + 1 - 0) first_part
+  pub lent_is : between k (i + 1) row ≡ others ++ c ∷ []
+  lent_is = ap (take (i + 1 - k)) behind_is ∙ take_at (others ++ c ∷ []) cs (i + 1 - k) as_long
+
+  pub next_is : (x : X) → get_or row i x ≡ c
+  next_is x = ap (λ y. get_or y i x) (parts ∙ sym (append_assoc front others (c ∷ cs))) ∙ get_or_at (front ++ others) c cs x i (length-append front others ∙ so_far)
 
   -- it stands in front of the others, as they are then
-  module _ (mid : List X) (q' : X) (ps' : List X) (f : mid ≡ q' ∷ ps') (k : length mid ≡ length (take (m + 1 - 0) row)) where
-    abbrev pub held : List X
-    held = mid ++ post_of 0 (m + 1 - 0) row
+  module _ (mid : List X) (c' : X) (others' : List X) (j : mid ≡ c' ∷ others') (l : length mid ≡ length (between k (i + 1) row)) where
+    pub put_back : put_mid k (i + 1 - k) row mid ≡ (front ++ c' ∷ []) ++ (others' ++ cs)
+    put_back =
+        let start : take k row ≡ front = ap (take k) whole ∙ take_at front ((others ++ c ∷ []) ++ cs) k so_many in
+        let rest : drop (i + 1 - k) (drop k row) ≡ cs = ap (drop (i + 1 - k)) behind_is ∙ drop_at (others ++ c ∷ []) cs (i + 1 - k) as_long in
+        ap (λ y. y ++ (mid ++ drop (i + 1 - k) (drop k row))) start ∙ ap (λ y. front ++ (mid ++ y)) rest ∙ ap (λ y. front ++ (y ++ cs)) j
+        ∙ sym (append_assoc front (c' ∷ []) (others' ++ cs))
 
-    held_is : held ≡ q' ∷ (ps' ++ qs)
-    held_is = ap (λ z. mid ++ z) behind_is ∙ ap (λ z. z ++ qs) f
+    pub as_many : length others' ≡ length others
+    as_many = omega (arith, ap length (sym j) ∙ l ∙ ap length lent_is ∙ length-append others (c ∷ []))
 
-    pub as_many : length ps' ≡ m
-    as_many = omega (arith, ap length f, k ∙ ap length front_is ∙ length-append ps (q ∷ []))
-
-    as_long : length row ≡ length (q' ∷ (ps' ++ qs))
-    as_long = omega (arith, as_many, ap length e ∙ length-append ps (q ∷ qs), length-append ps' qs)
-
-    pub others_are : take (length row - 1) (drop 1 held) ≡ ps' ++ qs
-    others_are = ap (λ z. take (length row - 1) (drop 1 z)) held_is ∙ ap (λ n. take (n - 1) (ps' ++ qs)) as_long ∙ rest_is q' (ps' ++ qs)
-
-    pub put_back : (rest : List X) → put_mid 1 (length row - 1) held rest ≡ q' ∷ rest
-    put_back rest = ap (λ z. put_mid 1 (length row - 1) z rest) held_is ∙ ap (λ n. put_mid 1 (n - 1) (q' ∷ (ps' ++ qs)) rest) as_long ∙ put_rest q' (ps' ++ qs) rest
+    pub one_more : length (front ++ c' ∷ []) ≡ k + 1
+    one_more = length-append front (c' ∷ []) ∙ omega arith

@@ -1,7 +1,9 @@
 -- The first patches of a row, passed over the others.
-use Rattle.std.proofs.Common.{◌≡◌, ℕ, zero, suc, ◌+◌, ◌-◌, ◌<◌, ◌≤◌, List, [], ◌∷◌, ◌++◌, length, take, drop, IfErr, Ok, Err, Result, sym, refl, ap, ◌∙◌, subst, arith}
-use borrow.Rule.Slice.PartMut.{put_mid, post_of}
-use Rattle.std.proofs.lemmas.List.{take_all, drop_all, take_at, drop_at, length-drop}
+use Rattle.std.proofs.Common.{◌≡◌, ℕ, ◌+◌, ◌-◌, ◌<◌, ◌≤◌, List, [], ◌∷◌, ◌++◌, length, take, drop, Ok, Err, Result, sym, refl, ap, ◌∙◌, subst, ⊎_elim, append_assoc, length-append, arith}
+use borrow.Rule.Slice.PartMut.{put_mid}
+use Rattle.std.specs.List.{between}
+use Rattle.std.proofs.lemmas.Bool.{cases_lt}
+use Rattle.std.proofs.lemmas.List.{take_all, take-append-drop, length-take-le, append-nil}
 use Rattle.kinds.specs.declared.answers.Clash.{Clash}
 use Rattle.kinds.specs.Theory.{Theory}
 use Rattle.kinds.specs.Bounded.{answer}
@@ -10,74 +12,111 @@ use Rattle.kinds.specs.Parts.{part}
 use Rattle.kinds.specs.Sequences.{and_then, answer_over, found_at, sequences}
 use Rattle.kinds.proofs.Stepwise.{answer_more}
 use Rattle.rows.specs.Pass.{Carried, Passed, passing, fault_of, one_further, in_front}
-use Rattle.rows.proofs.NextCarried.{front_is, as_many, others_are, put_back}
+use Rattle.rows.proofs.NextCarried.{lent_is, put_back, as_many, one_more}
 use Rattle.rows.proofs.Carrying.{Tried, clash}
 
--- a row, cut before the place m
-cut : {A : Type 0} (row : List A) (m : ℕ) → m < length row → (ps : List A) × (q : A) × (qs : List A) × (row ≡ ps ++ q ∷ qs) × (length ps ≡ m)
-cut [] m h = absurd (omega arith)
-cut (x ∷ row) zero h = ([], x, row, refl, refl)
-cut (x ∷ row) (suc m) h = let (ps, q, qs, e, l) = cut row m (omega arith) in (x ∷ ps, q, qs, ap (λ r. x ∷ r) e, ap suc l)
-
 module _ {P F : Type 0} (T : Theory P F) where
-  pub none_behind : (row : List P) (m : ℕ) → length row ≤ m → Passed (passing T (take m row) (drop m row)) (Ok tt) row
-  none_behind row m h = rw (take_all m row h, drop_all m row h) (refl, refl)
+  -- with some in front, of which each is one place more
+  abbrev ahead : List P → ℕ → Result (List P × List P) (AtStep Clash) → Result (List P × List P) (AtStep Clash)
+  ahead front n = part (λ s. (front ++ s.0, s.1)) (λ x. found_at (n + x.step) x.fault)
 
-  -- at a row that is cut
-  module _ (ps : List P) (q : P) (qs : List P) (m : ℕ) (l : length ps ≡ m) where
-    abbrev row : List P
-    row = ps ++ q ∷ qs
+  -- The first m patches of the row `was` pass over the others. They were passed over the first n of these, and the row is `row` now.
+  pub record Along (was : List P) (m : ℕ) (row : List P) (n : ℕ) : Type 0 where
+    pub front : List P
+    pub passing_on : List P
+    pub later : List P
+    pub parts : row ≡ front ++ (passing_on ++ later)
+    pub so_many : length front ≡ n
+    pub as_many : length passing_on ≡ length (take m was)
+    pub same : passing T (take m was) (drop m was) ≡ ahead front n (passing T passing_on later)
 
-    -- ps passed over q, which answered a, and then over the others
-    abbrev then_others : Result (P × List P) Clash → Result (List P × List P) (AtStep Clash)
-    then_others a = and_then (part (λ s. s) (found_at 0) a) (λ s. part (in_front s.0) one_further (passing T s.1 qs))
-
-    at_cut : (r : Result (Unit {0}) (AtStep Clash)) (left : List P) → Passed (then_others (answer_over T ps q)) r left → Passed (passing T (take m row) (drop m row)) r left
-    at_cut r left h = rw (take_at ps (q ∷ qs) m l, drop_at ps (q ∷ qs) m l) h
-
-    cut_stopped : (c : Clash) (mid left : List P) → Tried T (take (m + 1 - 0) row) (Err c) mid → Passed (passing T (take m row) (drop m row)) (Err (found_at 0 c)) left
-    cut_stopped c mid left h = at_cut (Err (found_at 0 c)) left (on (answer_over T ps q) (h ps q (front_is row m ps q qs refl l)))
+  module _ (was : List P) (m : ℕ) where
+    pub none_passed : Along was m was 0
+    none_passed = record {
+      front = [];
+      passing_on = take m was;
+      later = drop m was;
+      parts = sym (take-append-drop m was);
+      so_many = refl;
+      as_many = refl;
+      same = on (passing T (take m was) (drop m was));
+    }
       where
-        on : (a : Result (P × List P) Clash) → Carried a (Err c) mid → Passed (then_others a) (Err (found_at 0 c)) left
-        on (Ok s) k = absurd (clash k.0)
-        on (Err d) k = ap (part (λ (u : Unit {0}). u) (found_at 0)) k
+        on : (r : Result (List P × List P) (AtStep Clash)) → r ≡ ahead [] 0 r
+        on (Ok s) = refl
+        on (Err x) = ap (λ k. Err (found_at k x.fault)) (omega arith)
 
-    module _ (mid rest : List P) (r : Result (Unit {0}) (AtStep Clash)) (h : Tried T (take (m + 1 - 0) row) (Ok tt) mid) (k : length mid ≡ length (take (m + 1 - 0) row)) where
-      abbrev held : List P
-      held = mid ++ post_of 0 (m + 1 - 0) row
+    module _ (row : List P) (n : ℕ) (along : Along was m row n) where
+      long : length row ≡ n + length (take m was) + length along.later
+      long =
+          ap length along.parts ∙ length-append along.front (along.passing_on ++ along.later)
+          ∙ (let a = length-append along.passing_on along.later in let b = along.so_many in let c = along.as_many in omega arith)
 
-      cut_next : Passed (passing T (take m (take (length row - 1) (drop 1 held))) (drop m (take (length row - 1) (drop 1 held)))) r rest
-          → Passed (passing T (take m row) (drop m row)) (part (λ u. u) one_further r) (put_mid 1 (length row - 1) held rest)
-      cut_next i = at_cut (part (λ u. u) one_further r) _ (on (answer_over T ps q) (h ps q (front_is row m ps q qs refl l)))
+      pub all_passed : length row ≡ length was → length row ≤ n + m → Passed (passing T (take m was) (drop m was)) (Ok tt) row
+      all_passed l h = subst (λ r. Passed r (Ok tt) row) (sym along.same) (on along.later refl)
         where
-          on : (a : Result (P × List P) Clash) → Carried a (Ok tt) mid → Passed (then_others a) (part (λ u. u) one_further r) (put_mid 1 (length row - 1) held rest)
-          on (Err d) j = absurd (clash (sym j))
-          on (Ok s) j =
-              let long = as_many row m ps q qs refl l mid s.0 s.1 j.1 k in
-              let i' : Passed (passing T s.1 qs) r rest =
-              rw (take_at s.1 qs m long, drop_at s.1 qs m long) at (subst (λ z. Passed (passing T (take m z) (drop m z)) r rest) (others_are row m ps q qs refl l mid s.0 s.1 j.1 k) i) in
-              subst (λ z. Passed (part (in_front s.0) one_further (passing T s.1 qs)) (part (λ u. u) one_further r) z) (sym (put_back row m ps q qs refl l mid s.0 s.1 j.1 k rest)) (at (passing T s.1 qs) i')
-            where
-              at : (b : Result (List P × List P) (AtStep Clash)) → Passed b r rest → Passed (part (in_front s.0) one_further b) (part (λ u. u) one_further r) (s.0 ∷ rest)
-              at (Ok t) x = (ap (part (λ u. u) one_further) x.0, ap (λ z. s.0 ∷ z) x.1)
-              at (Err c) x = ap (part (λ u. u) one_further) x
+          on : (later : List P) → along.later ≡ later → Passed (ahead along.front n (passing T along.passing_on later)) (Ok tt) row
+          on [] z =
+              (refl, along.parts ∙ ap (λ y. along.front ++ (along.passing_on ++ y)) z ∙ ap (λ y. along.front ++ y) (append-nil along.passing_on) ∙ ap (λ y. y ++ along.passing_on) (sym (append-nil along.front)))
+          on (q ∷ qs) z =
+              let a = long in
+              let b = ap length z in
+              absurd (⊎_elim (λ k. let c = length-take-le m was (omega arith) in omega arith) (λ k. let c = ap length (take_all m was k) in omega arith) (cases_lt m (length was)))
 
-  pub stopped_front : (row : List P) (m : ℕ) → m < length row → (c : Clash) (mid left : List P) → Tried T (take (m + 1 - 0) row) (Err c) mid
-      → Passed (passing T (take m row) (drop m row)) (Err (found_at 0 c)) left
-  stopped_front row m b c mid left =
-      let (ps, q, qs, e, l) = cut row m b in
-      subst (λ z. Tried T (take (m + 1 - 0) z) (Err c) mid → Passed (passing T (take m z) (drop m z)) (Err (found_at 0 c)) left) (sym e) (cut_stopped ps q qs m l c mid left)
+      -- the next of the others
+      module _ (same_long : length row ≡ length was) (h : n + m < length row) (a : Result (Unit {0}) Clash) (mid : List P) (tried : Tried T (between n (n + m + 1) row) a mid) where
+        abbrev Next : Type 0
+        Next = (q : P) × (qs : List P) × (along.later ≡ q ∷ qs)
 
-  pub next_front : (row : List P) (m : ℕ) → m < length row → (mid rest : List P) (r : Result (Unit {0}) (AtStep Clash))
-      → Tried T (take (m + 1 - 0) row) (Ok tt) mid → length mid ≡ length (take (m + 1 - 0) row)
-      → Passed (passing T (take m (take (length row - 1) (drop 1 (mid ++ post_of 0 (m + 1 - 0) row)))) (drop m (take (length row - 1) (drop 1 (mid ++ post_of 0 (m + 1 - 0) row))))) r rest
-      → Passed (passing T (take m row) (drop m row)) (part (λ u. u) one_further r) (put_mid 1 (length row - 1) (mid ++ post_of 0 (m + 1 - 0) row) rest)
-  next_front row m b mid rest r =
-      let (ps, q, qs, e, l) = cut row m b in
-      subst (λ z. Tried T (take (m + 1 - 0) z) (Ok tt) mid → length mid ≡ length (take (m + 1 - 0) z)
-      → Passed (passing T (take m (take (length z - 1) (drop 1 (mid ++ post_of 0 (m + 1 - 0) z)))) (drop m (take (length z - 1) (drop 1 (mid ++ post_of 0 (m + 1 - 0) z))))) r rest
-      → Passed (passing T (take m z) (drop m z)) (part (λ u. u) one_further r) (put_mid 1 (length z - 1) (mid ++ post_of 0 (m + 1 - 0) z) rest)) (sym e)
-      (λ h k. cut_next ps q qs m l mid rest r h k)
+        next : Next
+        next = on along.later refl
+          where
+            on : (later : List P) → along.later ≡ later → Next
+            on [] z = absurd (let a = long in let b = ap length z in let c = length-take-le m was (omega arith) in omega arith)
+            on (q ∷ qs) z = (q, qs, z)
+
+        parts_are : (q : P) (qs : List P) → along.later ≡ q ∷ qs → row ≡ along.front ++ (along.passing_on ++ q ∷ qs)
+        parts_are q qs z = along.parts ∙ ap (λ y. along.front ++ (along.passing_on ++ y)) z
+
+        so_far : length along.front + length along.passing_on ≡ n + m
+        so_far = let a = along.so_many in let b = along.as_many in let c = length-take-le m was (omega arith) in omega arith
+
+        carried : (q : P) (qs : List P) → along.later ≡ q ∷ qs → Carried (answer_over T along.passing_on q) a mid
+        carried q qs z = tried along.passing_on q (lent_is row along.front along.passing_on q qs n (n + m) (parts_are q qs z) along.so_many so_far)
+
+        -- what they answer, if this one answers b
+        abbrev then_others : List P → Result (P × List P) Clash → Result (List P × List P) (AtStep Clash)
+        then_others qs b = ahead along.front n (and_then (part (λ s. s) (found_at 0) b) (λ s. part (in_front s.0) one_further (passing T s.1 qs)))
+
+        pub stopped : (x : AtStep Clash) (left : List P) → part (λ u. u) (found_at n) a ≡ Err x → Passed (passing T (take m was) (drop m was)) (Err x) left
+        stopped x left e =
+            let (q, qs, z) = next in
+            subst (λ r. Passed r (Err x) left) (sym (along.same ∙ ap (λ y. ahead along.front n (passing T along.passing_on y)) z)) (on a e qs (answer_over T along.passing_on q) (carried q qs z))
+          where
+            on : (a : Result (Unit {0}) Clash) → part (λ u. u) (found_at n) a ≡ Err x → (qs : List P) (b : Result (P × List P) Clash) → Carried b a mid → Passed (then_others qs b) (Err x) left
+            on (Ok u) e qs b j = absurd (let z : ◌≡◌ {A = ℕ} 0 1 = cc in omega arith)
+            on (Err c) e qs (Ok s) j = absurd (clash j.0)
+            on (Err c) e qs (Err d) j = let y : c ≡ d = cc in sym e ∙ ap (λ c. Err (found_at n c)) y ∙ ap (λ k. Err (found_at k d)) (omega arith)
+
+        pub one_passed : a ≡ Ok tt → length mid ≡ length (between n (n + m + 1) row) → Along was m (put_mid n (n + m + 1 - n) row mid) (n + 1)
+        one_passed e l = let (q, qs, z) = next in on q qs z (answer_over T along.passing_on q) refl (carried q qs z)
+          where
+            moved : (q : P) (r : Result (List P × List P) (AtStep Clash)) → ahead along.front n (part (in_front q) one_further r) ≡ ahead (along.front ++ q ∷ []) (n + 1) r
+            moved q (Ok t) = ap (λ y. Ok (y, t.1)) (sym (append_assoc along.front (q ∷ []) t.0))
+            moved q (Err x) = ap (λ k. Err (found_at k x.fault)) (omega arith)
+
+            on : (q : P) (qs : List P) → along.later ≡ q ∷ qs → (b : Result (P × List P) Clash) → answer_over T along.passing_on q ≡ b → Carried b a mid → Along was m (put_mid n (n + m + 1 - n) row mid) (n + 1)
+            on q qs z (Err d) f j = absurd (clash (sym j ∙ e))
+            on q qs z (Ok s) f (_, j) =
+                record {
+                  front = along.front ++ s.0 ∷ [];
+                  passing_on = s.1;
+                  later = qs;
+                  parts = put_back row along.front along.passing_on q qs n (n + m) (parts_are q qs z) along.so_many so_far mid s.0 s.1 j l;
+                  so_many = one_more row along.front along.passing_on q qs n (n + m) (parts_are q qs z) along.so_many so_far mid s.0 s.1 j l;
+                  as_many = as_many row along.front along.passing_on q qs n (n + m) (parts_are q qs z) along.so_many so_far mid s.0 s.1 j l ∙ along.as_many;
+                  same = along.same ∙ ap (λ y. ahead along.front n (passing T along.passing_on y)) z ∙ ap (then_others qs) f ∙ moved s.0 (passing T s.1 qs);
+                }
 
   -- without the place, this is what the sequences answer
   pub forgotten : (ps qs : List P) → part (λ s. s) fault_of (passing T ps qs) ≡ answer (sequences T) ps qs
@@ -95,22 +134,7 @@ module _ {P F : Type 0} (T : Theory P F) where
       on below (Ok s) = inner s (passing T s.1 qs) (answer (sequences T) s.1 qs) (below s.1)
       on below (Err c) = refl
 
-  -- the place is one of theirs
-  placed : (ps qs : List P) (x : AtStep Clash) → passing T ps qs ≡ Err x → x.step < length qs
-  placed ps [] x e = absurd (let z : ◌≡◌ {A = ℕ} 0 1 = cc in omega arith)
-  placed ps (q ∷ qs) x e = on (λ xs y. placed xs qs y) (answer_over T ps q) e
-    where
-      inner : (b : Result (List P × List P) (AtStep Clash)) (s : P × List P) → ((y : AtStep Clash) → b ≡ Err y → y.step < length qs)
-          → part (in_front s.0) one_further b ≡ Err x → x.step < suc (length qs)
-      inner (Ok t) s below h = absurd (let z : ◌≡◌ {A = ℕ} 0 1 = cc in omega arith)
-      inner (Err y) s below h = let z : one_further y ≡ x = cc in omega (arith, below y refl, ap (λ (w : AtStep Clash). w.step) z)
-
-      on : ((xs : List P) (y : AtStep Clash) → passing T xs qs ≡ Err y → y.step < length qs) → (a : Result (P × List P) Clash)
-          → and_then (part (λ s. s) (found_at 0) a) (λ s. part (in_front s.0) one_further (passing T s.1 qs)) ≡ Err x → x.step < suc (length qs)
-      on below (Ok s) h = inner (passing T s.1 qs) s (below s.1) h
-      on below (Err c) h = let z : found_at 0 c ≡ x = cc in omega (arith, ap (λ (w : AtStep Clash). w.step) z)
-
-  -- what the one clause says by the other two
+  -- what the one clause says by the other
   module _ (row : List P) (m : ℕ) (r : Result (Unit {0}) (AtStep Clash)) (left : List P) (h : Passed (passing T (take m row) (drop m row)) r left) where
     pub whole : Passed (answer (sequences T) (take m row) (drop m row)) (part (λ u. u) fault_of r) left
     whole = rw (← forgotten (take m row) (drop m row)) (on (passing T (take m row) (drop m row)) h)
@@ -118,14 +142,3 @@ module _ {P F : Type 0} (T : Theory P F) where
         on : (a : Result (List P × List P) (AtStep Clash)) → Passed a r left → Passed (part (λ s. s) fault_of a) (part (λ u. u) fault_of r) left
         on (Ok s) x = (ap (part (λ u. u) fault_of) x.0, x.1)
         on (Err c) x = ap (part (λ u. u) fault_of) x
-
-    pub within : IfErr r (λ s. m + s.step < length row)
-    within = on (passing T (take m row) (drop m row)) r refl h
-      where
-        at : (a : Result (List P × List P) (AtStep Clash)) (x : AtStep Clash) → Passed a (Err x) left → a ≡ Err x
-        at (Ok s) x k = absurd (let z : ◌≡◌ {A = ℕ} 0 1 = cc k.0 in omega arith)
-        at (Err y) x k = cc
-
-        on : (a : Result (List P × List P) (AtStep Clash)) (s : Result (Unit {0}) (AtStep Clash)) → passing T (take m row) (drop m row) ≡ a → Passed a s left → IfErr s (λ s. m + s.step < length row)
-        on a (Ok u) e k = tt
-        on a (Err x) e k = omega (arith, placed (take m row) (drop m row) x (e ∙ at a x k), length-drop m row)

@@ -1,16 +1,13 @@
 -- One patch more of a row, applied.
-use Rattle.std.proofs.Common.{◌≡◌, ℕ, ◌+◌, ◌<◌, true, List, [], ◌∷◌, ◌++◌, length, get_or, take, drop, replicate, Ok, Err, Result, sym, ap, ◌∙◌, subst, true≢false, arith}
-use lib.ListN.{length-replicate}
+use Rattle.std.proofs.Common.{◌≡◌, ℕ, ◌+◌, ◌<◌, List, [], ◌∷◌, ◌++◌, length, get_or, take, drop, Ok, Err, Result, sym, ap, ◌∙◌, subst, arith}
 use Rattle.std.proofs.lemmas.List.{take_more, take-append-drop, length-take-le}
 use Rattle.kinds.specs.declared.answers.Failure.{Failure}
 use Rattle.kinds.specs.declared.steps.AtStep.{AtStep}
 use Rattle.kinds.specs.Theory.{Theory}
 use Rattle.kinds.specs.Laws.{Lawful}
-use Rattle.kinds.specs.Bounded.{roomy, Applied}
+use Rattle.kinds.specs.Bounded.{Applied}
 use Rattle.kinds.specs.Parts.{failing}
 use Rattle.kinds.specs.Sequences.{found_at, sequences}
-use Rattle.rows.specs.Replay.{Replayed}
-use Rattle.kinds.proofs.Lending.{room_width}
 use Rattle.kinds.proofs.Stepwise.{applied_more, applied_stopped}
 
 module _ {P F : Type 0} (T : Theory P F) (row : List P) (was : List ℕ) where
@@ -24,15 +21,3 @@ module _ {P F : Type 0} (T : Theory P F) (row : List P) (was : List ℕ) where
 
   pub broken_off : (i : ℕ) (f : Failure (AtStep F)) (left : List ℕ) → Applied (sequences T) (take i row) was (Err f) left → Applied (sequences T) row was (Err f) left
   broken_off i f left a = subst (λ (z : List P). Applied (sequences T) z was (Err f) left) (take-append-drop i row) (applied_stopped T (take i row) (drop i row) was f left a)
-
-  -- a run of zeros holds the fresh document
-  pub from_zeros : Lawful T → (zeros : List ℕ) (r : Result (Unit {0}) (Failure (AtStep F))) (left : List ℕ) → roomy T (length was) ≡ true → zeros ≡ replicate (length was) 0
-      → Applied (sequences T) row zeros r left → Replayed T row was r left
-  from_zeros L zeros r left room is a = record {
-    refused = λ no. absurd (true≢false (sym room ∙ no));
-    done = λ _.
-        let fresh = L.held_in_words.starts in
-        let w = room_width T (length was) room in
-        let long : length zeros ≡ length was = ap length is ∙ length-replicate (length was) 0 in
-        a.done T.fresh fresh.0 (is ∙ ap (λ n. replicate n 0) w.0 ∙ sym fresh.2) (rw long room);
-  }

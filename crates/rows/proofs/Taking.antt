@@ -45,15 +45,6 @@ module _ {P F : Type 0} (T : Theory P F) where
       lent_is : between start (length row) row ≡ drop start row
       lent_is = between_to_end row start (length row) (omega arith)
 
-      pub stopped_there : (e : AtStep Clash) → Passed (passing T (take count (between start (length row) row)) (drop count (between start (length row) row))) (Err e) left
-          → TakenOut T row start count (Err e) (put_mid start (length row - start) row left)
-      stopped_there e k = on (passing T (take count (drop start row)) (drop count (drop start row)))
-          (subst (λ z. Passed (passing T (take count z) (drop count z)) (Err e) left) lent_is k)
-        where
-          on : (a : Result (List P × List P) (AtStep Clash)) → Passed a (Err e) left → taken (take start row) a (Err e) (put_mid start (length row - start) row left)
-          on (Ok s) x = absurd (let z : ◌≡◌ {A = ℕ} 0 1 = cc x.0 in omega arith)
-          on (Err d) x = cc
-
       pub taken_there : (m : ℕ) → m ≡ min count (length row - start)
           → Passed (passing T (take count (between start (length row) row)) (drop count (between start (length row) row))) (Ok tt) left
           → TakenOut T row start count (Ok (length row - m)) (put_mid start (length row - start) row left)

@@ -8,5 +8,5 @@ pub fn copy_row<K: Kind>(from: &[K::Patch], to: &mut [K::Patch])
     ensures { to.new ≡ take (length to.old) from.now ++ drop (length from.now) to.old }
 {
     let n = from.len().min(to.len());
-    to[0..n].copy_from_slice(&from[0..n]);
+    to[..n].copy_from_slice(&from[..n]);
 }

@@ -3,5 +3,6 @@
 
 pub mod copy;
 pub mod pass;
+pub mod place;
 pub mod replay;
 pub mod take_out;

@@ -14,14 +14,12 @@ use kinds::steps::AtStep;
 pub fn carry_left<K: Kind>(row: &mut [K::Patch]) -> Result<(), Clash>
     ensures { (ps : List K.Patch) (q : K.Patch) → row.old ≡ ps ++ q ∷ [] → Carried (answer_over K.Kind.theory ps q) result row.new }
 {
-    let n = row.len();
-    if n < 2 {
-        return Ok(());
+    // By places, since two neighbours are written at once and no iterator lends both.
+    for i in (1..row.len()).rev() {
+        let (q, p) = K::commute(row[i - 1], row[i])?;
+        row[i - 1] = q;
+        row[i] = p;
     }
-    carry_left::<K>(&mut row[1..n])?;
-    let (q, p) = K::commute(row[0], row[1])?;
-    row[0] = q;
-    row[1] = p;
     Ok(())
 }
 
@@ -32,18 +30,9 @@ pub fn pass_over<K: Kind>(row: &mut [K::Patch], count: usize) -> Result<(), AtSt
     ensures whole { Passed (answer (sequences K.Kind.theory) (take count row.old) (drop count row.old)) (part (λ u. u) fault_of result) row.new }
     ensures within { IfErr result (λ s. count + s.step < length row.old) }
 {
-    let n = row.len();
-    if n <= count {
-        return Ok(());
+    // By places, since each turn lends the neighbours one place further, and no iterator lends those again.
+    for step in 0..row.len().saturating_sub(count) {
+        carry_left::<K>(&mut row[step..=step + count]).map_err(|fault| AtStep { step, fault })?;
     }
-    match carry_left::<K>(&mut row[0..count + 1]) {
-        Ok(()) => match pass_over::<K>(&mut row[1..n], count) {
-            Ok(()) => Ok(()),
-            Err(stop) => Err(AtStep {
-                step: stop.step + 1,
-                fault: stop.fault,
-            }),
-        },
-        Err(fault) => Err(AtStep { step: 0, fault }),
-    }
+    Ok(())
 }

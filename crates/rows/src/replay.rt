@@ -16,8 +16,8 @@ pub fn replay<K: Kind>(row: &[K::Patch], run: &mut [u32]) -> Result<(), Failure<
     if !roomy(run, K::words()) {
         return Err(Failure::Length);
     }
-    for i in 0..row.len() {
-        at_step(i, K::apply(row[i], run))?;
+    for (step, patch) in row.iter().enumerate() {
+        at_step(step, K::apply(*patch, run))?;
     }
     Ok(())
 }

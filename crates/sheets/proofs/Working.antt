@@ -1,13 +1,13 @@
 -- What each change leaves in the words of the sheets.
-use Rattle.std.proofs.Common.{◌≡◌, ℕ, ◌+◌, ◌*◌, ◌<◌, ◌≤◌, Bool, true, false, eqb, ltb, ◌⊎◌, List, [], ◌∷◌, ◌++◌, length, get_or, take, drop, set, replicate, Some, None, Ok, Err, Decides, Option, Result, sym, refl, ap, ◌∙◌, subst, inl, inr, ⊎_elim, append_assoc, one-add, arith, length-append, length-drop, length-take}
+use Rattle.std.proofs.Common.{◌≡◌, ℕ, ◌+◌, ◌*◌, ◌<◌, ◌≤◌, Bool, true, false, eqb, ltb, List, [], ◌∷◌, ◌++◌, length, get_or, take, drop, set, replicate, Some, None, Ok, Err, Decides, Option, Result, sym, refl, ap, ◌∙◌, subst, ⊎_elim, append_assoc, one-add, arith, length-append, length-drop, length-take}
 use lib.Seq.{paste}
 use borrow.Rule.Slice.PartMut.{put_mid}
-use Rattle.std.specs.List.{slice_get}
+use Rattle.std.specs.List.{slice_get, list_all}
 use Rattle.std.proofs.ByRecursion.{All-set}
 use Rattle.std.proofs.lemmas.List.{length-set, get_or_at, set_at, set_comm, take-set-le, drop-set-lt, drop-drop, length-replicate, length-take-le, take-replicate}
 use Rattle.std.proofs.lemmas.List.Edits.{length-paste}
 use Rattle.std.proofs.lemmas.Option.{slice_get_past}
-use Rattle.std.proofs.lemmas.Bool.{and_from, and_parts, or_parts, eq-eqb, eqb-true, eqb-false, lt-ltb, le-ltb, cases_lt, cases_order, cond-false, true≢false}
+use Rattle.std.proofs.lemmas.Bool.{and_from, and_parts, or_parts, eq-eqb, eqb-true, eqb-false, lt-ltb, le-ltb, cases_lt, cond-false, true≢false}
 use Rattle.std.proofs.lemmas.Bool.Decides.{same_from_decides}
 use Rattle.kinds.specs.declared.answers.Failure.{Failure}
 use Rattle.kinds.specs.declared.answers.Failure.TheVariants.{Fault}
@@ -15,7 +15,7 @@ use Rattle.kinds.specs.Theory.{Theory}
 use Rattle.kinds.specs.Bounded.{Applied, roomy, outcome, holding, done_or_fault, largest}
 use Rattle.kinds.specs.Laws.{Lawful}
 use Rattle.kinds.specs.Parts.{part, failing}
-use Rattle.kinds.specs.Slots.{every, passing, Around}
+use Rattle.kinds.specs.Slots.{passing, Around}
 use Rattle.kinds.proofs.Cases.{some_one, none_some, err_ok}
 use Rattle.kinds.proofs.Lending.{middle, put_middle, put_around, around_wider, other_words, slot_end, placed_outcome}
 use Rattle.kinds.proofs.Slots.{step_from, step_reads, step_back, steps_apart, slot_of_all, Holds, slot_words, slot_there}
@@ -26,10 +26,10 @@ use Rattle.sheets.specs.Sheets.{if_there, if_absent, sheet_size, sheet_fits, she
 use Rattle.sheets.specs.Proofs.SheetLaws.{sheet_holds}
 
 -- all words are zero just if they are that many zeros
-zeros_tell : (v : List ℕ) → Decides (every (λ x. eqb x 0) v) (v ≡ replicate (length v) 0)
+zeros_tell : (v : List ℕ) → Decides (list_all (λ x. eqb x 0) v) (v ≡ replicate (length v) 0)
 zeros_tell [] = (λ _. refl, λ _. refl)
 zeros_tell (x ∷ v) = (
-  λ h. let (a, b) = and_parts (eqb x 0) (every (λ x. eqb x 0) v) h in let e = eqb-true x 0 a in let f = (zeros_tell v).0 b in (λ i. e i ∷ f i),
+  λ h. let (a, b) = and_parts (eqb x 0) (list_all (λ x. eqb x 0) v) h in let e = eqb-true x 0 a in let f = (zeros_tell v).0 b in (λ i. e i ∷ f i),
   λ e. and_from _ _ (eq-eqb x 0 (ap (λ u. get_or u 0 0) e)) ((zeros_tell v).1 (ap (drop 1) e)),
 )
 
@@ -234,35 +234,35 @@ module _ {P F : Type 0} (T : Theory P F) (l : Lawful T) (w : ℕ) (was : List �
   pub remove_fails : (a : Sheet) (r : Failure (SheetFault F)) → there_at w a was ≡ Err r → Worked T (Remove a) was (Err r) was
   remove_fails a r h = stop (Remove a) r (λ d f e. (not_there d a f e h (λ _. false) _).1)
 
-  blank_is : (x : Doc) → T.fits x → blank x ≡ every (λ v. eqb v 0) (T.encode x)
-  blank_is x g = same_from_decides (blank x) (every (λ v. eqb v 0) (T.encode x)) (l.held_in_words.tells_fresh x) (fresh_from, fresh_to)
+  blank_is : (x : Doc) → T.fits x → blank x ≡ list_all (λ v. eqb v 0) (T.encode x)
+  blank_is x g = same_from_decides (blank x) (list_all (λ v. eqb v 0) (T.encode x)) (l.held_in_words.tells_fresh x) (fresh_from, fresh_to)
     where
       zeros : T.encode fresh ≡ replicate (length (T.encode x)) 0
       zeros = l.held_in_words.starts.2 ∙ ap (λ n. replicate n 0) (sym (l.held_in_words.filled x g))
 
-      fresh_from : every (λ v. eqb v 0) (T.encode x) ≡ true → x ≡ fresh
+      fresh_from : list_all (λ v. eqb v 0) (T.encode x) ≡ true → x ≡ fresh
       fresh_from h = l.held_in_words.apart x fresh g l.held_in_words.starts.0 ((zeros_tell (T.encode x)).0 h ∙ sym zeros)
 
-      fresh_to : x ≡ fresh → every (λ v. eqb v 0) (T.encode x) ≡ true
+      fresh_to : x ≡ fresh → list_all (λ v. eqb v 0) (T.encode x) ≡ true
       fresh_to e = (zeros_tell (T.encode x)).1 (ap T.encode e ∙ zeros)
 
   module _ (a : Sheet) (at k : ℕ) (h : there_at {F = F} w a was ≡ Ok at) (same : k ≡ width) where
     -- what the words tell of the sheet's document
     zero_tells : (d : S.Doc) → S.fits d → was ≡ S.encode d
-        → (x : Doc) × (slice_get d a.0 ≡ Some (Some x)) × (blank x ≡ every (λ v. eqb v 0) (take k (drop (at + 1) was)))
+        → (x : Doc) × (slice_get d a.0 ≡ Some (Some x)) × (blank x ≡ list_all (λ v. eqb v 0) (take k (drop (at + 1) was)))
     zero_tells d f e =
         let (x, o) = is_there d a f e h in
         let (_, _, _, g, _) = inside_is d a.0 x o f e in (
           x,
           o,
-          blank_is x g ∙ ap (every (λ v. eqb v 0)) (sym (rest_is d a.0 x o f e))
+          blank_is x g ∙ ap (list_all (λ v. eqb v 0)) (sym (rest_is d a.0 x o f e))
               ∙ rw (same, (there_found a at h).0),
         )
 
-    pub remove_not_fresh : every (λ v. eqb v 0) (take k (drop (at + 1) was)) ≡ false → Worked T (Remove a) was (Err (Fault (NotFresh a))) was
+    pub remove_not_fresh : list_all (λ v. eqb v 0) (take k (drop (at + 1) was)) ≡ false → Worked T (Remove a) was (Err (Fault (NotFresh a))) was
     remove_not_fresh z = stop (Remove a) (Fault (NotFresh a)) (λ d f e. let (x, o, b) = zero_tells d f e in rw (o, b ∙ z))
 
-    pub remove_works : every (λ v. eqb v 0) (take k (drop (at + 1) was)) ≡ true → Worked T (Remove a) was (Ok tt) (set was at 0)
+    pub remove_works : list_all (λ v. eqb v 0) (take k (drop (at + 1) was)) ≡ true → Worked T (Remove a) was (Ok tt) (set was at 0)
     remove_works z =
         subst (λ (v : ℕ). Worked T (Remove a) was (Ok tt) (set was v 0)) (sym (there_found a at h).0)
         (work (Remove a) (Ok tt) (set was (a.0 * w) 0) (set_others (Remove a) a 0 (λ x t q. eqb-false a.0 x.0 t (sym q))) done)
@@ -330,14 +330,6 @@ module _ {P F : Type 0} (T : Theory P F) (l : Lawful T) (w : ℕ) (was : List �
       let (_, j) = got_absent b (b.0 * w) (told w b was) k in
       let same : a ≡ b = λ i. record { 0 = e i } in
       none_some (sym (some_one (Some x) None (sym i ∙ ap (λ s. told w s was) same ∙ j)))
-
-  pub sheets_apart : (a b : Sheet) (at to : ℕ) → there_at {F = F} w a was ≡ Ok at → absent_at {F = F} w b was ≡ Ok to → (at + w ≤ to) ⊎ (to + w ≤ at)
-  sheets_apart a b at to h k =
-      let i = (there_found a at h).0 in
-      let j = (absent_found b to k).0 in
-      ⊎_elim (λ e. absurd (two_sheets a b at to h k e))
-      (⊎_elim (λ c. inl (omega (arith, slot_end a.0 b.0 w c, i, j))) (λ c. inr (omega (arith, slot_end b.0 a.0 w c, i, j))))
-      (cases_order a.0 b.0)
 
   sheet_is : (d : S.Doc) (n : ℕ) (x : Option Doc) → slice_get d n ≡ Some x → S.fits d → sheet_fits T x → was ≡ S.encode d → take w (drop (n * w) was) ≡ sheet_encode T x
   sheet_is d n x o f g e =

@@ -1,12 +1,12 @@
 -- Sheets: a document is a list of documents of the kind below, each there or not, and a change makes, removes or moves one, or changes it inside.
 use Rattle.std.specs.Prelude.{◌≡◌, ℕ, ◌+◌, ◌*◌, ◌<◌, Bool, true, false, cond, not, ◌&&◌, ◌||◌, List, ◌∷◌, length, drop, replicate, Some, None, Ok, Err, sum_by, Option, Result, ◌==◌, nat_lt, slice_index, slice_set}
 use Rattle.std.proofs.Math.Seq.{paste}
-use Rattle.std.specs.List.{AllByRecursion, slice_get, flat_map}
+use Rattle.std.specs.List.{AllByRecursion, slice_get, flat_map, list_all}
 use Rattle.kinds.specs.declared.answers.Failure.{Failure}
 use Rattle.kinds.specs.Theory.{Theory}
 use Rattle.kinds.specs.Bounded.{Applied, done_or_fault, largest}
 use Rattle.kinds.specs.Parts.{both, part}
-use Rattle.kinds.specs.Slots.{every, passing, words_of}
+use Rattle.kinds.specs.Slots.{passing, words_of}
 use Rattle.sheets.specs.declared.Sheet.{Sheet}
 use Rattle.sheets.specs.declared.SheetChange.TheVariants.{the_data as SheetChange, Create, Remove, Move, Inside}
 use Rattle.sheets.specs.declared.SheetFault.TheVariants.{the_data as SheetFault, Absent, There, NotFresh, Inside as InSheet}
@@ -129,7 +129,7 @@ module _ {P F : Type 0} (T : Theory P F) where
   sheets = record {
     Doc = List (Option T.Doc);
     fresh = replicate 4 None;
-    blank = λ d. (length d == 4) && every absent d;
+    blank = λ d. (length d == 4) && list_all absent d;
     size = sum_by sheet_size;
     apply = sheet_apply;
     invert = sheet_invert;

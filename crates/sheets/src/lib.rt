@@ -1,11 +1,9 @@
 // Sheets: for each of four sheets a document has a document of the kind below or none. A change makes, removes or moves a sheet, or changes it inside.
 #![tactic(auto)]
 
-ghost use Rattle.std.specs.Prelude.{◌≡◌, ◌+◌, ◌*◌, ◌<◌, ◌≤◌, ◌⊎◌, length, IfOk, nat_eq};
+ghost use Rattle.std.specs.Prelude.{◌≡◌, ◌+◌, ◌*◌, ◌<◌, ◌≤◌, ◌⊎◌, not, length, if◌then◌else◌, Some, None, IfOk, IfSome, ◌==◌, nat_lt, slice_index};
 ghost use Rattle.kinds.specs.Bounded.{Applied, saturated};
-ghost use Rattle.kinds.specs.Parts.{failing};
-ghost use Rattle.kinds.specs.Slots.{every};
-ghost use Rattle.sheets.specs.declared.SheetFault.TheVariants.{Inside as in_sheet};
+ghost use Rattle.std.specs.List.{list_all};
 ghost use Rattle.sheets.specs.declared.SheetChange.TheVariants.{Create as creating, Remove as removing, Move as moving, Inside as changing};
 ghost use Rattle.sheets.specs.Proofs.SheetLaws.{sheets_lawful};
 ghost use Rattle.sheets.specs.Sheets.{touches as is_of, share as are_of_one, there_at, absent_at, moved_words, FourSheets, Worked, Others, sheets as the_sheets};
@@ -14,11 +12,11 @@ use kinds::answers::{Clash, Failure};
 use kinds::counts::{roomy, total};
 use kinds::kind::Kind;
 
-// The number of a sheet, from 0 to 3.
-#[derive(Clone, Copy)]
+// The number of a sheet, from 0 to 3. A number and no enum, so that one that no sheet has can be told and refused.
+#[derive(Clone, Copy, Debug, PartialEq, Eq)]
 pub struct Sheet(pub u8);
 
-#[derive(Clone, Copy)]
+#[derive(Clone, Copy, Debug, PartialEq, Eq)]
 pub enum SheetChange<P> {
     // A fresh sheet where there is none.
     Create(Sheet),
@@ -30,7 +28,7 @@ pub enum SheetChange<P> {
     Inside(Sheet, P),
 }
 
-#[derive(Clone, Copy)]
+#[derive(Clone, Copy, Debug, PartialEq, Eq)]
 pub enum SheetFault<F> {
     // The sheet is not there.
     Absent(Sheet),
@@ -49,25 +47,13 @@ pub struct Sheets<K> {
 
 const COUNT: u8 = 4;
 
-// A failure from the sheet a, with its place added.
-fn at_sheet<F>(a: Sheet, r: Result<(), Failure<F>>) -> Result<(), Failure<SheetFault<F>>>
-    ensures { result ≡ failing (in_sheet a) r }
-{
-    match r {
-        Ok(()) => Ok(()),
-        Err(failure) => Err(Failure::Fault(SheetFault::Inside(a, failure.fault()?))),
-    }
-}
-
 // Whether the change is of the sheet x.
 fn touches<P: Copy>(c: SheetChange<P>, x: Sheet) -> bool
     ensures { result ≡ is_of c x }
 {
     match c {
-        SheetChange::Create(a) => a.0 == x.0,
-        SheetChange::Remove(a) => a.0 == x.0,
-        SheetChange::Move { from, to } => from.0 == x.0 || to.0 == x.0,
-        SheetChange::Inside(a, _) => a.0 == x.0,
+        SheetChange::Create(a) | SheetChange::Remove(a) | SheetChange::Inside(a, _) => a == x,
+        SheetChange::Move { from, to } => from == x || to == x,
     }
 }
 
@@ -76,11 +62,24 @@ fn share<P: Copy>(c: SheetChange<P>, d: SheetChange<P>) -> bool
     ensures { result ≡ are_of_one c d }
 {
     match c {
-        SheetChange::Create(a) => touches(d, a),
-        SheetChange::Remove(a) => touches(d, a),
+        SheetChange::Create(a) | SheetChange::Remove(a) | SheetChange::Inside(a, _) => touches(
+            d, a,
+        ),
         SheetChange::Move { from, to } => touches(d, from) || touches(d, to),
-        SheetChange::Inside(a, _) => touches(d, a),
     }
+}
+
+// Where the words of the sheet a begin, and whether it is there, of four sheets of `width` words each.
+fn find(run: &[u32], width: usize, a: Sheet) -> Option<(usize, bool)>
+    requires { (length run.now ≡ 4 * width) × (0 < width) }
+    ensures found { result ≡ (if nat_lt a.0 4 then Some (a.0 * width, not (slice_index run.now (a.0 * width) == 0)) else None) }
+    ensures within { IfSome result (λ p. p.0 + width ≤ length run.now) }
+{
+    if a.0 >= COUNT {
+        return None;
+    }
+    let at = a.0 as usize * width;
+    Some((at, run[at] != 0))
 }
 
 // Where the words of the sheet a begin, if it is there.
@@ -89,14 +88,10 @@ fn find_there<F>(run: &[u32], width: usize, a: Sheet) -> Result<usize, Failure<S
     ensures found { result ≡ there_at width a run.now }
     ensures within { IfOk result (λ at. at + width ≤ length run.now) }
 {
-    if a.0 >= COUNT {
-        return Err(Failure::Fault(SheetFault::Absent(a)));
+    match find(run, width, a) {
+        Some((at, true)) => Ok(at),
+        _ => Err(Failure::Fault(SheetFault::Absent(a))),
     }
-    let at = a.0 as usize * width;
-    if run[at] == 0 {
-        return Err(Failure::Fault(SheetFault::Absent(a)));
-    }
-    Ok(at)
 }
 
 // Where the words of the sheet a begin, if it is absent.
@@ -105,26 +100,18 @@ fn find_absent<F>(run: &[u32], width: usize, a: Sheet) -> Result<usize, Failure<
     ensures found { result ≡ absent_at width a run.now }
     ensures within { IfOk result (λ at. at + width ≤ length run.now) }
 {
-    if a.0 >= COUNT {
-        return Err(Failure::Fault(SheetFault::Absent(a)));
+    match find(run, width, a) {
+        Some((at, false)) => Ok(at),
+        Some((_, true)) => Err(Failure::Fault(SheetFault::There(a))),
+        None => Err(Failure::Fault(SheetFault::Absent(a))),
     }
-    let at = a.0 as usize * width;
-    if run[at] != 0 {
-        return Err(Failure::Fault(SheetFault::There(a)));
-    }
-    Ok(at)
 }
 
 // Whether all words are zero.
 fn all_zero(run: &[u32]) -> bool
-    ensures { result ≡ every (λ x. nat_eq x 0) run.now }
+    ensures { result ≡ list_all (λ x. x == 0) run.now }
 {
-    for word in run {
-        if *word != 0 {
-            return false;
-        }
-    }
-    true
+    run.iter().all(|word| *word == 0)
 }
 
 // Moves `count` words to a place apart from theirs, and leaves zeros.
@@ -132,14 +119,13 @@ fn move_words(run: &mut [u32], from: usize, to: usize, count: usize)
     requires { (from + count ≤ length run.old) × ((to + count ≤ length run.old) × ((from + count ≤ to) ⊎ (to + count ≤ from))) }
     ensures { run.new ≡ moved_words from to count run.old }
 {
-    for i in 0..count {
-        run[to + i] = run[from + i];
-    }
+    run.copy_within(from..from + count, to);
     run[from..from + count].fill(0);
 }
 
 // The four changes of a run that holds four sheets of `width` words each. An absent sheet's words are all zero,
-// and so are those of a fresh document, so that creating and removing write the first word only.
+// and so are those of a fresh document, so that creating and removing write the first word only. The run and the width
+// stay two parameters: of a struct that holds a lent run each contract would have to say what comes back.
 fn create<K: Kind>(
     a: Sheet,
     run: &mut [u32],
@@ -197,8 +183,9 @@ fn inside<K: Kind>(
     ensures { Worked K.Kind.theory (changing a p) run.old result run.new }
 {
     let at = find_there(run, width, a)?;
-    at_sheet(a, K::apply(p, &mut run[at + 1..at + width]))?;
-    Ok(())
+    K::apply(p, &mut run[at + 1..at + width]).map_err(|failure| failure.map(
+        |fault| SheetFault::Inside(a, fault),
+    ))
 }
 
 // The number of words of a sheet.
@@ -215,23 +202,7 @@ impl<K: Kind> Kind for Sheets<K> {
 
     ghost theory = { the_sheets K.Kind.theory };
 
-    ghost undo = { (sheets_lawful K.Kind.theory K.lawful).undo };
-
-    ghost swap_back = { (sheets_lawful K.Kind.theory K.lawful).swap_back };
-
-    ghost same_effect = { (sheets_lawful K.Kind.theory K.lawful).same_effect };
-
-    ghost turning = { (sheets_lawful K.Kind.theory K.lawful).turning };
-
-    ghost three = { (sheets_lawful K.Kind.theory K.lawful).three };
-
-    ghost growth = { (sheets_lawful K.Kind.theory K.lawful).grows };
-
-    ghost reach = { (sheets_lawful K.Kind.theory K.lawful).reach };
-
-    ghost stays_written = { (sheets_lawful K.Kind.theory K.lawful).stays_written };
-
-    ghost held_in_words = { (sheets_lawful K.Kind.theory K.lawful).held_in_words };
+    ghost lawful = { sheets_lawful K.Kind.theory K.lawful };
 
     fn words() -> u32 {
         total(COUNT as u32, sheet_words::<K>(), 0)
@@ -239,18 +210,15 @@ impl<K: Kind> Kind for Sheets<K> {
 
     fn writable(p: SheetChange<K::Patch>) -> bool {
         match p {
-            SheetChange::Create(a) => a.0 < COUNT,
-            SheetChange::Remove(a) => a.0 < COUNT,
-            SheetChange::Move { from, to } => from.0 < COUNT && to.0 < COUNT && from.0 != to.0,
+            SheetChange::Create(a) | SheetChange::Remove(a) => a.0 < COUNT,
+            SheetChange::Move { from, to } => from.0 < COUNT && to.0 < COUNT && from != to,
             SheetChange::Inside(a, x) => a.0 < COUNT && K::writable(x),
         }
     }
 
     fn grows_by(p: SheetChange<K::Patch>) -> u32 {
         match p {
-            SheetChange::Create(_) => 0,
-            SheetChange::Remove(_) => 0,
-            SheetChange::Move { from: _, to: _ } => 0,
+            SheetChange::Create(_) | SheetChange::Remove(_) | SheetChange::Move { .. } => 0,
             SheetChange::Inside(_, x) => K::grows_by(x),
         }
     }
@@ -279,6 +247,7 @@ impl<K: Kind> Kind for Sheets<K> {
                     SheetChange::Inside(a, first),
                 ))
             }
+            // The guards compare the numbers: the prover does not cover a call, as of `==`, before p and q are used again.
             (SheetChange::Move { from, to }, SheetChange::Inside(a, x)) if a.0 == to.0 => Ok((
                 SheetChange::Inside(from, x),
                 p,

@@ -1,5 +1,6 @@
 -- What each call answers, and the state that it leaves. The refusals stand in the order in which they are looked for.
 use Rattle.std.specs.Prelude.{ℕ, ◌+◌, Bool, true, false, not, ◌&&◌, List, [], ◌∷◌, ◌++◌, length, Some, None, Ok, Err, Option, Result, ◌==◌, nat_le, nat_lt}
+use Rattle.std.specs.List.{list_all}
 use Rattle.kinds.specs.Theory.{Theory}
 use Rattle.kinds.specs.Bounded.{roomy}
 use Rattle.kinds.specs.Laws.{most}
@@ -38,8 +39,7 @@ pub record Memory : Type 0 where
 
 -- Every row has room for 160 changes.
 abbrev pub all_long : List ℕ → Bool
-all_long [] = true
-all_long (n ∷ ns) = nat_le most_changes n && all_long ns
+all_long = list_all (nat_le most_changes)
 
 module _ {P F : Type 0} (T : Theory P F) where
   abbrev by_name : Named (List P) → ℕ

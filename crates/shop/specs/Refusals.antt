@@ -1,5 +1,8 @@
 -- The number and the value that the rules give to each refusal.
 use Rattle.std.specs.Prelude.{ℕ, Some, None, Option}
+use Rattle.kinds.specs.declared.answers.Failure.{Failure}
+use Rattle.kinds.specs.declared.answers.Failure.TheVariants.{Length, Overfull, Fault as Faulty}
+use Rattle.kinds.specs.declared.steps.AtStep.{AtStep}
 use Rattle.shop.specs.declared.refusal.Refusal.{Refusal}
 use Rattle.shop.specs.declared.refusal.Refusal.TheVariants.{NoRepository, SameRepository, WrongRoom, WrongCount, Unwritable, NotHeld, AlreadyHeld, Fault, Lacking, Clashes, NeededBy, NoName, Full, Overgrown, Torn}
 
@@ -40,3 +43,9 @@ module _ {F : Type 0} where
   value Full = None
   value Overgrown = None
   value (Torn r) = Some r
+
+-- What a change that fails to apply is told as. Where there is room for the document, it is always a fault.
+abbrev pub failure_told : {F : Type 0} → Failure (AtStep F) → Refusal F
+failure_told Length = WrongRoom
+failure_told Overfull = Overgrown
+failure_told (Faulty f) = Fault f

@@ -13,7 +13,8 @@ use kinds::answers::{Clash, Failure};
 use kinds::counts::{roomy, total};
 use kinds::kind::Kind;
 
-#[derive(Clone, Copy)]
+// What is of the one side or of the other. No `Result`, since neither is an error.
+#[derive(Clone, Copy, Debug, PartialEq, Eq)]
 pub enum Side<A, B> {
     Left(A),
     Right(B),
@@ -25,7 +26,8 @@ pub struct Sides<L, R> {
     right: R,
 }
 
-// A failure of the left side, with its place added.
+// A failure of the left side, with its place added. It is no closure, and no function for both sides that takes one: the
+// prover does not cover a closure whose result has a type, here G, that is none of its arguments'.
 fn at_left<F, G>(r: Result<(), Failure<F>>) -> Result<(), Failure<Side<F, G>>>
     ensures { result ≡ failing to_left r }
 {
@@ -52,23 +54,7 @@ impl<L: Kind, R: Kind> Kind for Sides<L, R> {
 
     ghost theory = { the_sides L.Kind.theory R.Kind.theory };
 
-    ghost undo = { (sides_lawful L.Kind.theory R.Kind.theory L.lawful R.lawful).undo };
-
-    ghost swap_back = { (sides_lawful L.Kind.theory R.Kind.theory L.lawful R.lawful).swap_back };
-
-    ghost same_effect = { (sides_lawful L.Kind.theory R.Kind.theory L.lawful R.lawful).same_effect };
-
-    ghost turning = { (sides_lawful L.Kind.theory R.Kind.theory L.lawful R.lawful).turning };
-
-    ghost three = { (sides_lawful L.Kind.theory R.Kind.theory L.lawful R.lawful).three };
-
-    ghost growth = { (sides_lawful L.Kind.theory R.Kind.theory L.lawful R.lawful).grows };
-
-    ghost reach = { (sides_lawful L.Kind.theory R.Kind.theory L.lawful R.lawful).reach };
-
-    ghost stays_written = { (sides_lawful L.Kind.theory R.Kind.theory L.lawful R.lawful).stays_written };
-
-    ghost held_in_words = { (sides_lawful L.Kind.theory R.Kind.theory L.lawful R.lawful).held_in_words };
+    ghost lawful = { sides_lawful L.Kind.theory R.Kind.theory L.lawful R.lawful };
 
     fn words() -> u32 {
         total(1, L::words(), R::words())

@@ -1,17 +1,15 @@
 -- A change applied to the words of a table.
-use Rattle.std.proofs.Common.{◌≡◌, ℕ, ◌<◌, true, false, cond, ◌&&◌, eqb, ltb, List, length, get_or, set, ℤ, pos, Some, None, Ok, Err, sym, refl, ap, ◌∙◌, ⊎_elim, arith, w16, SFits, to_z, of_z}
+use Rattle.std.proofs.Common.{◌≡◌, ℕ, ◌<◌, true, cond, ◌&&◌, eqb, ltb, List, length, get_or, set, ℤ, pos, Some, None, Ok, sym, refl, ap, ◌∙◌, arith, w16, SFits, to_z, of_z}
 use Rattle.std.proofs.ByRecursion.{All-get_or}
 use Rattle.std.proofs.lemmas.List.{get_or-map, map-set}
 use Rattle.std.proofs.lemmas.Int.{to_z-of_z}
-use Rattle.std.proofs.lemmas.Bool.{cases_Bool, true≢false}
+use Rattle.std.proofs.lemmas.Bool.{true≢false}
 use Rattle.std.proofs.lemmas.Bool.Decides.{nat_tests}
 use Rattle.kinds.specs.Bounded.{Applied, outcome, largest}
-use Rattle.kinds.specs.declared.answers.Failure.TheVariants.{Fault}
 use Rattle.tables.specs.declared.Cell.{Cell}
 use Rattle.tables.specs.declared.CellChange.{CellChange}
-use Rattle.tables.specs.declared.CellFault.TheVariants.{Differs}
-use Rattle.tables.specs.Table.{table, in_table, place, in_range, word, holds}
-use Rattle.tables.specs.Proofs.Takes.{Changed, takes, held_parts}
+use Rattle.tables.specs.Table.{table, in_table, place, in_range, word}
+use Rattle.tables.specs.Proofs.Takes.{Changed, takes}
 use Rattle.tables.specs.Proofs.Values.{word_apart}
 use Rattle.tables.specs.Proofs.Words.{still_fits}
 
@@ -55,9 +53,3 @@ module _ (p : CellChange) (was : List ℕ) (n : length was ≡ 64) where
           let c = changes o i h d f e in
           let t = takes p d _ c in
           (set d k p.new, still_fits p d _ w f c, l ∙ ap (λ x. set x k (word p.new)) e ∙ sym (map-set word d k p.new), rw t)
-
-  pub faulted : (in_table p.cell ≡ true → get_or was (place p.cell) 0 ≡ word p.old → ⊥) → Applied table p was (Err (Fault (Differs p.cell))) was
-  faulted h = record { refused = λ r. absurd (true≢false (rw n at r)); done = λ d f e _. (d, f, e, rw (differs d f e)) }
-    where
-      differs : (d : List ℤ) → table.fits d → was ≡ table.encode d → holds d p.cell p.old ≡ false
-      differs d f e = ⊎_elim (λ k. let c = held_parts p d k in absurd (h c.has (read d f e c.has ∙ ap word c.held))) (λ k. k) (cases_Bool (holds d p.cell p.old))

@@ -11,13 +11,13 @@ use kinds::counts::roomy;
 use kinds::kind::Kind;
 
 // A cell of a table, which has the rows 0 to 7 and the columns 0 to 7.
-#[derive(Clone, Copy, PartialEq, Eq)]
+#[derive(Clone, Copy, Debug, PartialEq, Eq)]
 pub struct Cell {
     pub row: u8,
     pub column: u8,
 }
 
-#[derive(Clone, Copy)]
+#[derive(Clone, Copy, Debug, PartialEq, Eq)]
 pub struct CellChange {
     pub cell: Cell,
     pub old: i16,
@@ -25,7 +25,7 @@ pub struct CellChange {
 }
 
 // What a change can find wrong with a table.
-#[derive(Clone, Copy)]
+#[derive(Clone, Copy, Debug, PartialEq, Eq)]
 pub enum CellFault {
     // The cell does not hold the old value, or a table does not have it.
     Differs(Cell),
@@ -47,7 +47,8 @@ impl Cell {
     }
 }
 
-// The word of a cell that holds the value: the value modulo 65,536.
+// The word of a cell that holds the value: the value modulo 65,536. This and the next are functions and no `From`, since
+// both types are the library's.
 pub fn cell_word(value: i16) -> u32
     ensures modulo { result ≡ word_of value }
     ensures exact { (v : ℤ) → in_range v ≡ true → result ≡ word_of v → v ≡ value }
@@ -60,10 +61,7 @@ pub fn word_cell(word: u32) -> Option<i16>
     ensures read { Read word result }
     ensures exact { (v : ℤ) → in_range v ≡ true → word ≡ word_of v → result ≡ Some v }
 {
-    match u16::try_from(word) {
-        Ok(bits) => Some(bits.cast_signed()),
-        Err(_) => None,
-    }
+    u16::try_from(word).ok().map(|bits| bits.cast_signed())
 }
 
 impl Kind for Tables {
@@ -73,23 +71,7 @@ impl Kind for Tables {
 
     ghost theory = { table };
 
-    ghost undo = { table_lawful.undo };
-
-    ghost swap_back = { table_lawful.swap_back };
-
-    ghost same_effect = { table_lawful.same_effect };
-
-    ghost turning = { table_lawful.turning };
-
-    ghost three = { table_lawful.three };
-
-    ghost growth = { table_lawful.grows };
-
-    ghost reach = { table_lawful.reach };
-
-    ghost stays_written = { table_lawful.stays_written };
-
-    ghost held_in_words = { table_lawful.held_in_words };
+    ghost lawful = { table_lawful };
 
     fn words() -> u32 {
         64
@@ -105,9 +87,9 @@ impl Kind for Tables {
 
     fn invert(p: CellChange) -> CellChange {
         CellChange {
-            cell: p.cell,
             old: p.new,
             new: p.old,
+            ..p
         }
     }
 
@@ -128,9 +110,7 @@ impl Kind for Tables {
             return Err(Failure::Length);
         }
         let differs = Failure::Fault(CellFault::Differs(p.cell));
-        let Some(place) = p.cell.place() else {
-            return Err(differs);
-        };
+        let place = p.cell.place().ok_or(differs)?;
         if run[place] != cell_word(p.old) {
             return Err(differs);
         }

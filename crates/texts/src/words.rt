@@ -1,7 +1,7 @@
-// The words of a line of text.
-ghost use Rattle.std.specs.Prelude.{◌≤◌, length};
+// The words of a line of text. They are bytes and no text, since a backslash in a quoted text takes one byte as it is.
+ghost use Rattle.std.specs.Prelude.{◌<◌, length, IfSome};
 
-#[derive(Clone, Copy)]
+#[derive(Clone, Copy, Debug, PartialEq, Eq)]
 pub(crate) enum Word<'a> {
     // Bytes up to the next blank.
     Plain(&'a [u8]),
@@ -9,89 +9,60 @@ pub(crate) enum Word<'a> {
     Quoted(&'a [u8]),
     // A quote that no other follows.
     Open,
-    // No word is left, or a comment begins.
-    End,
 }
 
-// What is left to read of a line.
+// The words that are left of a line, up to its comment.
 #[derive(Clone, Copy)]
 pub(crate) struct Words<'a> {
     rest: &'a [u8],
 }
 
 fn is_blank(byte: u8) -> bool {
-    byte == b' ' || byte == b'\t' || byte == b'\r'
-}
-
-// The number of blanks in front.
-fn blanks(text: &[u8]) -> usize
-    ensures { result ≤ length text.now }
-{
-    for (i, byte) in text.iter().enumerate() {
-        if !is_blank(*byte) {
-            return i;
-        }
-    }
-    text.len()
-}
-
-// The number of bytes in front of the next blank.
-fn plain_bytes(text: &[u8]) -> usize
-    ensures { result ≤ length text.now }
-{
-    for (i, byte) in text.iter().enumerate() {
-        if is_blank(*byte) {
-            return i;
-        }
-    }
-    text.len()
+    matches!(byte, b' ' | b'\t' | b'\r')
 }
 
 // The number of bytes in front of the quote that ends the text; a backslash takes the next byte with it.
-fn quoted_bytes(text: &[u8]) -> Option<usize> {
+fn quoted_bytes(text: &[u8]) -> Option<usize>
+    ensures { IfSome result (λ end. end < length text.now) }
+{
     let mut escaped = false;
-    for (i, byte) in text.iter().enumerate() {
-        if escaped {
-            escaped = false;
-        } else if *byte == b'\\' {
-            escaped = true;
-        } else if *byte == b'"' {
-            return Some(i);
-        }
-    }
-    None
+    text.iter().position(|byte| {
+        let ends = *byte == b'"' && !escaped;
+        escaped = *byte == b'\\' && !escaped;
+        ends
+    })
 }
 
 impl<'a> Words<'a> {
     pub(crate) fn new(line: &'a [u8]) -> Self {
         Words { rest: line }
     }
+}
 
-    // Takes the next word.
-    pub(crate) fn next(&mut self) -> Word<'a> {
-        let text = self.rest;
-        let text = &text[blanks(text)..];
+impl<'a> Iterator for Words<'a> {
+    type Item = Word<'a>;
+
+    fn next(&mut self) -> Option<Word<'a>> {
+        let start = self.rest.iter().position(|byte| !is_blank(*byte))?;
+        let text = &self.rest[start..];
         match text {
-            [] => Word::End,
-            [b'#', ..] => Word::End,
+            [b'#', ..] => None,
             [b'"', inner @ ..] => match quoted_bytes(inner) {
-                Some(end) if end < inner.len() => {
+                Some(end) => {
                     self.rest = &inner[end + 1..];
-                    Word::Quoted(&inner[0..end])
+                    Some(Word::Quoted(&inner[..end]))
                 }
-                _ => Word::Open,
+                None => Some(Word::Open),
             },
             _ => {
-                let end = plain_bytes(text);
-                self.rest = &text[end..];
-                Word::Plain(&text[0..end])
+                let end = text
+                    .iter()
+                    .position(|byte| is_blank(*byte))
+                    .unwrap_or(text.len());
+                let (word, rest) = text.split_at(end);
+                self.rest = rest;
+                Some(Word::Plain(word))
             }
         }
-    }
-
-    // The next word, which stays to be read.
-    pub(crate) fn peek(&self) -> Word<'a> {
-        let mut ahead = *self;
-        ahead.next()
     }
 }

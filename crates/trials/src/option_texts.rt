@@ -2,9 +2,10 @@
 #[cfg(test)]
 mod tests {
     use kinds::answers::{Clash, Failure};
-    use options::fitting::{Stuck, put_on, take_off};
+    use kinds::steps::AtStep;
+    use options::parts::Stuck;
     use product::controller::controller_words;
-    use product::telling::{Told, tell};
+    use product::telling::{Numbers, tell};
     use std::alloc::Global;
     use std::test::Fail;
     use texts::reading::read_options;
@@ -34,84 +35,122 @@ mod tests {
     #[test]
     fn unreadable_lines_are_told(rt: HostRuntime) {
         for (text, line) in UNREADABLE {
-            match read_options(rt.alloc(), text) {
-                Ok(_) => assert!(rt; false, "it was read"),
-                Err(unreadable) => assert!(rt; unreadable.line == line),
-            }
+            let unreadable = read_options(rt.alloc(), text).err();
+            assert_eq!(rt; unreadable.map(|unreadable| unreadable.line), Some(line));
         }
     }
 
-    // The fault that the text's options meet on a fresh controller.
-    fn fault(heap: Global, text: &str) -> Option<Told> {
+    #[test]
+    fn unreadable_lines_are_printed(rt: HostRuntime) -> Result<(), Fail> {
+        let texts = [
+            ("option", "line 1: the option has no name"),
+            ("option a\n\nbasic 0 rules 0 - 1", "line 3: -> is expected"),
+        ];
+        for (text, line) in texts {
+            let unreadable = read_options(rt.alloc(), text)
+                .err()
+                .expect(&rt, "it was read");
+            let printed = format!(in rt.alloc(); "{unreadable}")?;
+            assert_eq!(rt; printed.as_str(), line);
+        }
+        Ok(())
+    }
+
+    // The numbers of the fault that the text's options meet on a fresh controller.
+    fn fault(heap: Global, text: &str) -> Option<Numbers> {
         let options = read_options(heap, text).ok()?;
         let mut run = Vec::from_elem(heap, 0u32, controller_words() as usize).ok()?;
-        match put_on(&options, &mut run) {
-            Err(Failure::Fault(at)) => Some(tell(at.fault)),
+        match options.put_on(&mut run) {
+            Err(Failure::Fault(at)) => Some(tell(at.fault).into()),
             _ => None,
         }
     }
 
-    // Each text, and the cause, module, sheet, step, part and position of its fault.
-    const FAULTS: [(&str, u8, u8, u8, usize, u8, u32); 7] = [
-        ("option a\ntiller 2 rules 0 - -> 1", 1, 2, 2, 0, 0, 0),
-        ("option a\nwinch 1 create\nwinch 1 create", 2, 1, 1, 0, 0, 0),
+    // Each text, and the numbers of its fault.
+    const FAULTS: [(&str, Numbers); 7] = [
+        (
+            "option a\ntiller 2 rules 0 - -> 1",
+            Numbers {
+                cause: 1,
+                module: 2,
+                sheet: 2,
+                step: 0,
+                part: 0,
+                position: 0,
+            },
+        ),
+        (
+            "option a\nwinch 1 create\nwinch 1 create",
+            Numbers {
+                cause: 2,
+                module: 1,
+                sheet: 1,
+                step: 0,
+                part: 0,
+                position: 0,
+            },
+        ),
         (
             "option a\nbasic 0 create\nbasic 1 create\nbasic 0 move 1",
-            2,
-            0,
-            1,
-            0,
-            0,
-            0,
+            Numbers {
+                cause: 2,
+                module: 0,
+                sheet: 1,
+                step: 0,
+                part: 0,
+                position: 0,
+            },
         ),
         (
             "option a\nbasic 0 create\nbasic 0 rules 0 - -> 5\nbasic 0 remove",
-            3,
-            0,
-            0,
-            0,
-            0,
-            0,
+            Numbers {
+                cause: 3,
+                module: 0,
+                sheet: 0,
+                step: 0,
+                part: 0,
+                position: 0,
+            },
         ),
         (
             "option a\nbasic 0 create\nbasic 0 notes 0 - -> \"n\" then notes 2 - -> \"m\"",
-            4,
-            0,
-            0,
-            1,
-            0,
-            1,
+            Numbers {
+                cause: 4,
+                module: 0,
+                sheet: 0,
+                step: 1,
+                part: 0,
+                position: 1,
+            },
         ),
         (
             "option a\nbasic 0 create\nbasic 0 rules 0 - -> 5 6\nbasic 0 rules 0 5 7 -> -",
-            5,
-            0,
-            0,
-            0,
-            1,
-            1,
+            Numbers {
+                cause: 5,
+                module: 0,
+                sheet: 0,
+                step: 0,
+                part: 1,
+                position: 1,
+            },
         ),
         (
             "option a\nbasic 3 create\nbasic 3 cell 2 3 -1 -> 4",
-            6,
-            0,
-            3,
-            0,
-            2,
-            19,
+            Numbers {
+                cause: 6,
+                module: 0,
+                sheet: 3,
+                step: 0,
+                part: 2,
+                position: 19,
+            },
         ),
     ];
 
     #[test]
     fn every_cause_is_told_with_its_place(rt: HostRuntime) {
-        for (text, cause, module, sheet, step, part, position) in FAULTS {
-            match fault(rt.alloc(), text) {
-                Some(t) => {
-                    assert!(rt; t.cause == cause && t.module == module && t.sheet == sheet);
-                    assert!(rt; t.step == step && t.part == part && t.position == position);
-                }
-                None => assert!(rt; false),
-            }
+        for (text, numbers) in FAULTS {
+            assert_eq!(rt; fault(rt.alloc(), text), Some(numbers));
         }
     }
 
@@ -120,25 +159,13 @@ mod tests {
     fn a_later_option_holds_an_earlier_one(rt: HostRuntime) -> Result<(), Fail> {
         let text =
             "option basic\nbasic 0 create\noption winch\nbasic 0 rules 0 - -> 1\noption tiller\nbasic 0 rules 1 - -> 2";
-        match read_options(rt.alloc(), text) {
-            Ok(mut options) => match take_off(rt.alloc(), &mut options, 1) {
-                Err(Stuck::By(stop)) => {
-                    assert!(rt;
-                        stop.step == 0
-                            && matches!(stop.fault, Clash::Refused)
-                            && options.row.len() == 3
-                    );
-                    Ok(())
-                },
-                _ => {
-                    assert!(rt; false);
-                    Ok(())
-                },
-            },
-            Err(_) => {
-                assert!(rt; false);
-                Ok(())
-            },
-        }
+        let mut options = read_options(rt.alloc(), text)?;
+        let stop = AtStep {
+            step: 0,
+            fault: Clash::Refused,
+        };
+        assert_eq!(rt; options.take_off(rt.alloc(), 1), Err(Stuck::By(stop)));
+        assert_eq!(rt; options.row.len(), 3);
+        Ok(())
     }
 }

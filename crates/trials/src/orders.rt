@@ -3,9 +3,10 @@
 mod tests {
     use kinds::answers::{Clash, Failure};
     use kinds::kind::Kind;
+    use kinds::steps::AtStep;
     use lines::rule::Rule;
     use lists::Lists;
-    use lists::hunk::{Hunk, Lines};
+    use lists::hunk::{Hunk, Lines, ListFault};
     use modules::{InModule, Module, ModuleFault, Modules};
     use pairs::{Pairs, Steps};
     use sheets::{Sheet, SheetChange, SheetFault, Sheets};
@@ -32,8 +33,8 @@ mod tests {
     fn pairs_over_modules(rt: HostRuntime) -> Result<(), Fail> {
         let mut run = vec![in rt.alloc(); 0u32; 363]?;
         let both = Steps::Two(within(0, insert(0, 7)), within(2, insert(0, 9)));
-        assert!(rt; PairsOverModules::apply(both, &mut run).is_ok());
-        assert!(rt; run.len() == 363);
+        assert_eq!(rt; PairsOverModules::apply(both, &mut run), Ok(()));
+        assert_eq!(rt; run.len(), 363);
         assert!(rt; run[0] == 1 && run[1] == 7 && run[121] == 0 && run[242] == 1 && run[243] == 9);
         Ok(())
     }
@@ -43,37 +44,26 @@ mod tests {
     fn places_from_below(rt: HostRuntime) -> Result<(), Fail> {
         let mut run = vec![in rt.alloc(); 0u32; 363]?;
         let bad = Steps::Two(within(0, insert(0, 8)), within(1, insert(5, 8)));
-        match PairsOverModules::apply(bad, &mut run) {
-            Err(Failure::Fault(at)) => match at.fault {
-                ModuleFault::Inside(module, _) => {
-                    assert!(rt; at.step == 1 && module.0 == 1);
-                    Ok(())
-                },
-                ModuleFault::NoModule(_) => {
-                    assert!(rt; false);
-                    Ok(())
-                },
-            },
-            _ => {
-                assert!(rt; false);
-                Ok(())
-            },
-        }
+        let fault = AtStep {
+            step: 1,
+            fault: ModuleFault::Inside(Module(1), ListFault::PastEnd { length: 0 }),
+        };
+        assert_eq!(rt;
+            PairsOverModules::apply(bad, &mut run),
+            Err(Failure::Fault(fault))
+        );
+        Ok(())
     }
 
     #[test]
-    fn wrong_length_is_left(rt: HostRuntime) -> Result<(), Fail> {
+    fn wrong_length_is_left(rt: HostRuntime) {
         let mut short = [3u32; 5];
-        match PairsOverModules::apply(Steps::One(within(0, insert(0, 7))), &mut short) {
-            Err(Failure::Length) => {
-                assert!(rt; short[0] == 3 && short[4] == 3);
-                Ok(())
-            },
-            _ => {
-                assert!(rt; false);
-                Ok(())
-            },
-        }
+        let patch = Steps::One(within(0, insert(0, 7)));
+        assert_eq!(rt;
+            PairsOverModules::apply(patch, &mut short),
+            Err(Failure::Length)
+        );
+        assert_eq!(rt; short, [3u32; 5]);
     }
 
     type SheetsOverSheets = Sheets<Sheets<Lists<Rule>>>;
@@ -82,11 +72,15 @@ mod tests {
     fn sheets_over_sheets(rt: HostRuntime) -> Result<(), Fail> {
         let mut run = vec![in rt.alloc(); 0u32; 1956]?;
         let inner = SheetChange::Create(Sheet(3));
-        assert!(rt; SheetsOverSheets::apply(SheetChange::Create(Sheet(1)), &mut run).is_ok());
-        assert!(rt;
-            SheetsOverSheets::apply(SheetChange::Inside(Sheet(1), inner), &mut run).is_ok()
+        assert_eq!(rt;
+            SheetsOverSheets::apply(SheetChange::Create(Sheet(1)), &mut run),
+            Ok(())
         );
-        assert!(rt; run.len() == 1956);
+        assert_eq!(rt;
+            SheetsOverSheets::apply(SheetChange::Inside(Sheet(1), inner), &mut run),
+            Ok(())
+        );
+        assert_eq!(rt; run.len(), 1956);
         assert!(rt; run[489] == 1 && run[489 + 1 + 366] == 1);
         Ok(())
     }
@@ -95,20 +89,17 @@ mod tests {
     #[test]
     fn faults_two_floors_down(rt: HostRuntime) -> Result<(), Fail> {
         let mut run = vec![in rt.alloc(); 0u32; 1956]?;
-        assert!(rt; SheetsOverSheets::apply(SheetChange::Create(Sheet(2)), &mut run).is_ok());
-        match SheetsOverSheets::apply(
-            SheetChange::Inside(Sheet(2), SheetChange::Remove(Sheet(0))),
-            &mut run,
-        ) {
-            Err(Failure::Fault(SheetFault::Inside(outer, SheetFault::Absent(inner)))) => {
-                assert!(rt; outer.0 == 2 && inner.0 == 0);
-                Ok(())
-            },
-            _ => {
-                assert!(rt; false);
-                Ok(())
-            },
-        }
+        assert_eq!(rt;
+            SheetsOverSheets::apply(SheetChange::Create(Sheet(2)), &mut run),
+            Ok(())
+        );
+        let remove = SheetChange::Inside(Sheet(2), SheetChange::Remove(Sheet(0)));
+        let fault = SheetFault::Inside(Sheet(2), SheetFault::Absent(Sheet(0)));
+        assert_eq!(rt;
+            SheetsOverSheets::apply(remove, &mut run),
+            Err(Failure::Fault(fault))
+        );
+        Ok(())
     }
 
     type ModulesOverPairs = Modules<Pairs<Pairs<Lists<Rule>>>>;
@@ -122,7 +113,7 @@ mod tests {
 
     // Two lines go in front of two others: the others move down by two.
     #[test]
-    fn modules_over_pairs_over_pairs(rt: HostRuntime) -> Result<(), Fail> {
+    fn modules_over_pairs_over_pairs(rt: HostRuntime) {
         let p = InModule {
             module: Module(1),
             patch: two_lines(4, 1, 2),
@@ -131,28 +122,20 @@ mod tests {
             module: Module(1),
             patch: two_lines(0, 3, 4),
         };
-        match ModulesOverPairs::commute(p, q) {
-            Ok(
-                (
-                    _,
-                    InModule {
-                        module,
-                        patch: Steps::One(Steps::Two(a, b)),
-                    },
-                ),
-            ) => {
-                assert!(rt; module.0 == 1 && a.start == 6 && b.start == 7);
-                Ok(())
-            },
-            _ => {
-                assert!(rt; false);
-                Ok(())
-            },
-        }
+        let moved = ModulesOverPairs::commute(p, q).ok().map(|(_, moved)| moved);
+        assert!(rt;
+            matches!(
+                moved,
+                Some(InModule {
+                    module: Module(1),
+                    patch: Steps::One(Steps::Two(Hunk { start: 6, .. }, Hunk { start: 7, .. },)),
+                })
+            )
+        );
     }
 
     #[test]
-    fn steps_that_touch_are_refused(rt: HostRuntime) -> Result<(), Fail> {
+    fn steps_that_touch_are_refused(rt: HostRuntime) {
         let p = InModule {
             module: Module(0),
             patch: Steps::One(Steps::One(insert(0, 1))),
@@ -161,26 +144,17 @@ mod tests {
             module: Module(0),
             patch: two_lines(0, 2, 3),
         };
-        match ModulesOverPairs::commute(p, q) {
-            Err(Clash::Refused) => Ok(()),
-            _ => {
-                assert!(rt; false);
-                Ok(())
-            },
-        }
+        assert_eq!(rt; ModulesOverPairs::commute(p, q).err(), Some(Clash::Refused));
     }
 
     // A number on the way is too large: the first step would have to start at 65,536.
     #[test]
-    fn too_far_on_the_way(rt: HostRuntime) -> Result<(), Fail> {
+    fn too_far_on_the_way(rt: HostRuntime) {
         let p = Steps::One(insert(65535, 1));
         let q = Steps::One(insert(0, 2));
-        match Pairs::<Lists<Rule>>::commute(p, q) {
-            Err(Clash::TooFar) => Ok(()),
-            _ => {
-                assert!(rt; false);
-                Ok(())
-            },
-        }
+        assert_eq!(rt;
+            Pairs::<Lists<Rule>>::commute(p, q).err(),
+            Some(Clash::TooFar)
+        );
     }
 }

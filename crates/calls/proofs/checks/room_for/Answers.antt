@@ -1,20 +1,21 @@
-use Rattle.std.proofs.Common.{sym, arith}
-use Rattle.calls.proofs.OneMore.{many_patches, many_changes, much_growth, room_left}
+use Rattle.std.proofs.Common.{sym, refl, ◌∙◌}
+use Rattle.std.proofs.lemmas.Result.{err_from_is_err_and}
+use Rattle.shop.proofs.Chains.{then_go}
+use Rattle.calls.proofs.Called.{refused_so, exit_is}
+use Rattle.calls.proofs.OneMore.{few_is, short_is, light_is, by_tests}
 use Rattle.calls.proofs.checks.room_for.Goals as goal
 
-pub returns-then-patch_count-ge-MOST_PATCHES : goal.returns-then-patch_count-ge-MOST_PATCHES
-returns-then-patch_count-ge-MOST_PATCHES g c p l k = many_patches g.K.Kind.theory c.args.row.now p (omega (arith, c.patch_count.ensures, c.if-patch_count-ge-MOST_PATCHES.true))
-
-pub returns-then-saturating_add-gt-MOST_CHANGES : goal.returns-then-saturating_add-gt-MOST_CHANGES
-returns-then-saturating_add-gt-MOST_CHANGES g c p l k =
-    many_changes g.K.Kind.theory c.args.row.now p c.saturating_add.result (rw l c.saturating_add.ensures) c.if-saturating_add-gt-MOST_CHANGES.true
-
-pub returns-then-saturating_add-gt-MOST_GROWTH : goal.returns-then-saturating_add-gt-MOST_GROWTH
-returns-then-saturating_add-gt-MOST_GROWTH g c p l k =
-    much_growth g.K.Kind.theory c.args.row.now p c.growth.result c.args.more (omega (arith, c.patch_count.ensures, c.if-patch_count-ge-MOST_PATCHES.false)) c.growth.ensures (sym k)
-    (omega (arith, c.saturating_add.ensures, c.if-saturating_add-gt-MOST_CHANGES.false, l)) c.saturating_add-2.result c.saturating_add-2.ensures c.if-saturating_add-gt-MOST_GROWTH.true
+pub returns-in_err-or_refused-2 : goal.returns-in_err-or_refused-2
+returns-in_err-or_refused-2 g c p l k =
+    exit_is _ (err_from_is_err_and c.from_residual-in_err-or_refused-2.result c.from_residual-in_err-or_refused-2.ensures.1)
+    ∙ sym (by_tests g.K.Kind.theory c.args.row.now p _ _ _ (few_is g.K.Kind.theory c.args.row.now p _ _ c.patch_count.ensures (rw (sym l) at c.saturating_add.ensures))
+    (short_is g.K.Kind.theory c.args.row.now p _ _ c.patch_count.ensures (rw (sym l) at c.saturating_add.ensures)) refl
+    ∙ then_go _ (sym c.in_ok-or_refused.ensures) (refused_so _ (sym c.in_err-or_refused-2.ensures)))
 
 pub returns : goal.returns
 returns g c p l k =
-    room_left g.K.Kind.theory c.args.row.now p c.growth.result c.args.more (omega (arith, c.patch_count.ensures, c.if-patch_count-ge-MOST_PATCHES.false)) c.growth.ensures (sym k)
-    (omega (arith, c.saturating_add.ensures, c.if-saturating_add-gt-MOST_CHANGES.false, l)) c.saturating_add-2.result c.saturating_add-2.ensures c.if-saturating_add-gt-MOST_GROWTH.false
+    c.or_refused-3.ensures
+    ∙ sym (by_tests g.K.Kind.theory c.args.row.now p _ _ _ (few_is g.K.Kind.theory c.args.row.now p _ _ c.patch_count.ensures (rw (sym l) at c.saturating_add.ensures))
+    (short_is g.K.Kind.theory c.args.row.now p _ _ c.patch_count.ensures (rw (sym l) at c.saturating_add.ensures))
+    (light_is g.K.Kind.theory c.args.row.now p _ _ _ c.growth.ensures (sym k) c.saturating_add-2.ensures)
+    ∙ then_go _ (sym c.in_ok-or_refused.ensures) (then_go _ (sym c.in_ok-or_refused-2.ensures) refl))

@@ -1,11 +1,11 @@
-use Rattle.std.proofs.lemmas.List.{take_all}
-use Rattle.forms.proofs.Growing.{grown_more}
+use Rattle.std.proofs.Common.{sym, ap, ◌∙◌, rules, tests}
+use Rattle.std.proofs.lemmas.Iterator.{YieldsList-from_slice}
+use Rattle.std.proofs.lemmas.Iterator.Consumers.{fold_from_yields_List}
+use Rattle.kinds.specs.Bounded.{saturated}
+use Rattle.forms.proofs.Growing.{told, told_all, growths_sum}
 use Rattle.forms.proofs.changes.growth_of.Goals as goal
 
-pub loop-i-preserved : goal.loop-i-preserved
-loop-i-preserved g c =
-    grown_more g.K.Kind.theory c.args.changes.now c.loop-i.i c.index-changes-i.result c.grows_by.result c.loop-i.sum c.total-sum.result
-    c.loop-i-test.true c.index-changes-i.is c.grows_by.ensures c.loop-i.invariant c.total-sum.ensures.lawful
-
 pub returns : goal.returns
-returns g c = rw (take_all c.loop-i.i c.args.changes.now c.loop-i-test.false) at c.loop-i.invariant
+returns g c =
+    fold_from_yields_List _ (told g.K.Kind.theory.growth) 0 c.fold.result c.fold.ensures.ran (YieldsList-from_slice c.args.changes.now (cc)) (λ a x b q k. search (rules, tests))
+    ∙ told_all g.K.Kind.theory.growth c.args.changes.now ∙ ap saturated (sym (growths_sum g.K.Kind.theory c.args.changes.now))

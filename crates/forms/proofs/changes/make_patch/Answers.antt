@@ -1,9 +1,12 @@
-use Rattle.std.proofs.Common.{is_some, sym, ap, ◌∙◌}
-use Rattle.forms.proofs.Writing.{few_enough, none_unwritable, same_unless}
+use Rattle.std.proofs.Common.{◌≡◌, true, ◌∙◌, rules, tests}
+use Rattle.std.proofs.lemmas.Iterator.{YieldsList-from_slice}
+use Rattle.std.proofs.lemmas.Iterator.Search.{all_from_yields_List}
+use Rattle.histories.specs.Named.{one_to_eight}
+use Rattle.forms.proofs.Writing.{all_are}
 use Rattle.forms.proofs.changes.make_patch.Goals as goal
 
-pub returns : goal.returns
-returns g c =
-    let a = few_enough c.args.changes.now c.if-n-eq0.false c.if-n-gt-MOST_IN_PATCH.false in
-    let b = ap is_some c.first_unwritable.ensures ∙ none_unwritable g.K.Kind.theory 0 c.args.changes.now in
-    rw a (same_unless _ _ (sym c.is_none.ensures ∙ b))
+pub returns-then-contains : goal.returns-then-contains
+returns-then-contains g c =
+    let few : one_to_eight c.args.changes.now ≡ true = search rules in
+    let all = all_from_yields_List g.K.Kind.theory.written _ _ c.all.result c.all.ensures.ran (YieldsList-from_slice c.args.changes.now (cc)) (λ x b q k. search (rules, tests)) in
+    rw few (all ∙ all_are g.K.Kind.theory c.args.changes.now)

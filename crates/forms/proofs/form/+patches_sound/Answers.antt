@@ -1,31 +1,38 @@
-use Rattle.forms.proofs.Forming.{none_unsound, zero_named, named_above, unwritten, twice, then_others}
+use Rattle.std.proofs.Common.{◌≡◌, ◌&&◌, ltb, leb, refl, ◌∙◌, sym, true≢false, rules}
+use Rattle.forms.proofs.FirstPatch.{first_of}
+use Rattle.forms.proofs.Forming.{misnumbered, unwritten, twice, then_rest}
 use Rattle.forms.proofs.form.+patches_sound.Goals as goal
+use Rattle.forms.proofs.form.+patches_sound.Goals.{then-contains, else-contains, then-make_patch, else-make_patch}
 
-pub returns-then-n-eq0 : goal.returns-then-n-eq0
-returns-then-n-eq0 g t c = none_unsound g.K.Kind.theory c.args.counter c.args.row.now c.if-n-eq0.true
+pub returns-then-not-holds : goal.returns-then-not-holds
+returns-then-not-holds g t c =
+    let first = first_of c.args.row.now c.in-Some.first.now c.leading.result c.in-Some.ensures.value c.leading.ensures.counted in
+    let ranged : c.contains.result ≡ ltb 0 c.in-Some.first.now.name && leb c.in-Some.first.now.name c.args.counter = search rules in
+    elim c.if-make_patch.branch [
+      | then-make_patch w ↦ elim c.if-contains.branch [
+        | then-contains u ↦
+            then_rest g.K.Kind.theory c.args.counter c.args.row.now c.in-Some.first.now c.leading.result first _ _ c.split_at.ensures.front c.split_at.ensures.back
+            _ _ _ ranged u.make_patch.ensures w.holds.ensures u.if-contains.true (sym u.value-is ∙ w.if-make_patch.true) (sym w.value-is ∙ c.if-not-holds.true)
+            c.patches_sound.result c.patches_sound.ensures
+        | else-contains u ↦ absurd (true≢false (sym w.if-make_patch.true ∙ u.value-is ∙ u.if-contains.false))
+      ]
+      | else-make_patch w ↦ absurd (true≢false (sym c.if-not-holds.true ∙ w.value-is ∙ w.if-make_patch.false))
+    ]
 
-pub returns-then-name-eq0 : goal.returns-then-name-eq0
-returns-then-name-eq0 g t c =
-    zero_named g.K.Kind.theory c.args.counter c.args.row.now c.first_patch-count.result c.if-n-eq0.false c.first_patch-count.ensures.counted c.index-row-0.result
-    c.if-name-eq0.true
-
-pub returns-then-name-counter : goal.returns-then-name-counter
-returns-then-name-counter g t c =
-    named_above g.K.Kind.theory c.args.counter c.args.row.now c.first_patch-count.result c.if-n-eq0.false c.first_patch-count.ensures.counted c.index-row-0.result
-    c.if-name-counter.true
-
-pub returns-then-not-make_patch : goal.returns-then-not-make_patch
-returns-then-not-make_patch g t c =
-    unwritten g.K.Kind.theory c.args.counter c.args.row.now c.first_patch-count.result c.if-n-eq0.false c.first_patch-count.ensures.counted c.index-row-0.result
-    c.make_patch.result c.make_patch.ensures c.if-not-make_patch.true
-
-pub returns-then-holds : goal.returns-then-holds
-returns-then-holds g t c =
-    twice g.K.Kind.theory c.args.counter c.args.row.now c.first_patch-count.result c.if-n-eq0.false c.first_patch-count.ensures.counted c.index-row-0.result
-    c.make_patch.result c.make_patch.ensures c.holds.result c.holds.ensures c.if-holds.true
-
-pub returns : goal.returns
-returns g t c =
-    then_others g.K.Kind.theory c.args.counter c.args.row.now c.first_patch-count.result c.if-n-eq0.false c.first_patch-count.ensures.counted c.index-row-0.result
-    c.make_patch.result c.make_patch.ensures c.holds.result c.holds.ensures
-    c.if-name-eq0.false c.if-name-counter.false c.if-not-make_patch.false c.if-holds.false c.patches_sound.result c.patches_sound.ensures
+pub returns-else-not-holds : goal.returns-else-not-holds
+returns-else-not-holds g t c =
+    let first = first_of c.args.row.now c.in-Some.first.now c.leading.result c.in-Some.ensures.value c.leading.ensures.counted in
+    let ranged : c.contains.result ≡ ltb 0 c.in-Some.first.now.name && leb c.in-Some.first.now.name c.args.counter = search rules in
+    c.if-not-holds.false ∙ elim c.if-make_patch.branch [
+      | then-make_patch w ↦
+          twice g.K.Kind.theory c.args.counter c.args.row.now c.in-Some.first.now c.leading.result first _ _ c.split_at.ensures.front c.split_at.ensures.back
+          _ _ _ ranged refl w.holds.ensures (sym w.value-is ∙ c.if-not-holds.false)
+      | else-make_patch w ↦ elim c.if-contains.branch [
+        | then-contains u ↦
+            unwritten g.K.Kind.theory c.args.counter c.args.row.now c.in-Some.first.now c.leading.result first _ _ c.split_at.ensures.front c.split_at.ensures.back
+            _ _ _ ranged u.make_patch.ensures refl (sym u.value-is ∙ w.if-make_patch.false)
+        | else-contains u ↦
+            misnumbered g.K.Kind.theory c.args.counter c.args.row.now c.in-Some.first.now c.leading.result first _ _ c.split_at.ensures.front c.split_at.ensures.back
+            _ _ _ ranged refl refl u.if-contains.false
+      ]
+    ]

@@ -1,19 +1,9 @@
-use Rattle.std.proofs.Common.{◌+◌, ◌-◌, ◌*◌, ◌≤◌, ltb, Some, None, sym, ◌∙◌, mul-le-mul_right, arith}
+use Rattle.std.proofs.Common.{◌+◌, ◌-◌, ltb, Some, None, sym, ◌∙◌, arith}
 use Rattle.std.proofs.lemmas.Bool.{lt-ltb, le-ltb, cond-true, cond-false}
 use Rattle.kinds.specs.Laws.{most}
 use Rattle.lists.specs.Hunk.{count}
 use Rattle.lists.proofs.Comparing.{told_by_words}
 use Rattle.lists.proofs.apply.next_len.Goals as goal
-
-pub offset_bounds-lines-start : goal.offset_bounds-lines-start
-offset_bounds-lines-start g c =
-    let m : c.args.h.start * c.words-width.result ≤ 120 * c.words-width.result = mul-le-mul_right c.words-width.result (omega (arith, c.if-end-len.false, c.requires)) in
-    record { fits = omega (arith, m, c.words-width.type_inv) }
-
-pub slice_bounds-first_difference-end : goal.slice_bounds-first_difference-end
-slice_bounds-first_difference-end g c =
-    let m : (c.args.h.start + c.count.result) * c.words-width.result ≤ 120 * c.words-width.result = mul-le-mul_right c.words-width.result (omega (arith, c.if-end-len.false, c.requires)) in
-    omega (arith, m, c.words-width.ensures, c.requires)
 
 pub returns-in-Some : goal.returns-in-Some
 returns-in-Some g c = record {

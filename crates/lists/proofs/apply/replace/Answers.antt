@@ -1,24 +1,8 @@
-use Rattle.std.proofs.Common.{◌≡◌, ◌*◌, ◌≤◌, length, mul-le-mul_right, arith}
+use Rattle.std.proofs.Common.{◌≡◌, ◌*◌, length, arith}
 use Rattle.lists.specs.Hunk.{count}
 use Rattle.lists.specs.Proofs.Steps.{step_from_takes}
 use Rattle.lists.proofs.Replacing.{top_fits, lines_fit, replaced_words}
 use Rattle.lists.proofs.apply.replace.Goals as goal
-
-pub offset_bounds-lines-start : goal.offset_bounds-lines-start
-offset_bounds-lines-start g c =
-    let m : c.args.h.start * c.words-width.result ≤ 120 * c.words-width.result = mul-le-mul_right c.words-width.result (omega (arith, c.requires.within)) in
-    record { fits = omega (arith, m, c.words-width.type_inv) }
-
-pub slice_bounds-part-count : goal.slice_bounds-part-count
-slice_bounds-part-count g c = mul-le-mul_right c.words-width.result (omega (arith, c.max.ensures, c.requires.within))
-
-pub slice_bounds-part-start : goal.slice_bounds-part-start
-slice_bounds-part-start g c = mul-le-mul_right c.words-width.result (omega (arith, c.max.ensures, c.requires.within))
-
-pub slice_bounds-part-end : goal.slice_bounds-part-end
-slice_bounds-part-end g c =
-    top_fits c.args.len c.args.next c.max.result c.words-width.result g.L.Line.form.width (length c.args.lines.now) c.max.ensures c.requires.within.1.1.0 c.requires.within.1.1.1
-    c.words-width.ensures c.requires.room.1
 
 pub make_room-requires : goal.make_room-requires
 make_room-requires g c =

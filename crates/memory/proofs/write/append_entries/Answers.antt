@@ -1,22 +1,8 @@
-use Rattle.std.proofs.Common.{length, refl, arith}
-use Rattle.memory.proofs.Appending.{same_room, no_room, still_within, all_appended}
+use Rattle.std.proofs.Common.{sym, refl, ◌∙◌, arith}
+use Rattle.memory.proofs.Appending.{all_appended}
 use Rattle.memory.proofs.write.append_entries.Goals as goal
 
-pub returns-then-len-start : goal.returns-then-len-start
-returns-then-len-start g c = record {
-  changes = no_room c.args.repository.now.row c.args.repository.now.count c.len.result _ c.args.repository.now.within c.len.ensures c.if-len-start.true;
-  room = refl;
-}
-
-pub invariant_of-repository : goal.invariant_of-repository
-invariant_of-repository g c =
-    record { within = still_within c.args.repository.now.row c.args.repository.now.count (length c.args.entries.now) _ refl (let w = c.args.repository.now.within in omega arith) _ }
-
-pub returns : goal.returns
-returns g c = record {
-  changes =
-      all_appended c.args.repository.now.row c.args.repository.now.count (length c.args.entries.now) _ refl (let w = c.args.repository.now.within in omega arith)
-      c.deref_mut.result.now c.copy_from_slice.new.self _ c.deref_mut.ensures.value
-      refl (λ _. c.copy_from_slice.ensures.after);
-  room = same_room c.args.repository.now.row _;
-}
+pub returns-clause-changes : goal.returns-clause-changes
+returns-clause-changes g c xs l a =
+    all_appended c.args.repository.now.row c.args.repository.now.count c.args.count _ refl (let w = c.args.repository.now.within in omega arith)
+    c.deref_mut.result.now c.write.new.row xs c.deref_mut.ensures.value l (λ e. c.write.ensures xs (l ∙ sym e) a)

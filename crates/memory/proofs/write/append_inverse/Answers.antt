@@ -1,13 +1,9 @@
-use Rattle.std.proofs.Common.{refl}
-use Rattle.memory.proofs.OneRepository.{no_change, rows_appended, rooms_kept}
+use Rattle.std.proofs.Common.{rules}
+use Rattle.memory.proofs.Writing.{inverted, inverted_length, inverted_at}
 use Rattle.memory.proofs.write.append_inverse.Goals as goal
 
-pub returns-then-number-gt3 : goal.returns-then-number-gt3
-returns-then-number-gt3 g c = record { rows = no_change c.args.shop.now c.args.number c.if-number-gt3.true _; rooms = refl; counter = refl }
-
 pub returns : goal.returns
-returns g c = record {
-  rows = rows_appended c.args.shop.now c.args.number c.if-number-gt3.false c.index-shop-number.result c.append_inverses.new.repository _ (rw c.part-patch.ensures at c.append_inverses.ensures.changes);
-  rooms = rooms_kept c.args.shop.now c.args.number c.if-number-gt3.false c.index-shop-number.result c.append_inverses.new.repository c.append_inverses.ensures.room;
-  counter = refl;
-}
+returns g c =
+    rw c.part-patch.ensures at
+    (c.append_at.ensures (inverted g.K.Kind.theory c.args.name c.part-patch.result.now) (inverted_length g.K.Kind.theory c.args.name c.part-patch.result.now)
+    (λ i x h k. search (rules, inverted_at g.K.Kind.theory c.args.name c.part-patch.result.now i)))

@@ -1,4 +1,3 @@
-use Rattle.std.proofs.lemmas.List.{take_all}
 use Rattle.std.proofs.lemmas.Result.{err_from_is_err_and}
 use Rattle.rows.proofs.Replaying.{one_more, broken_off}
 use Rattle.rows.proofs.replay.replay.Goals as goal
@@ -7,13 +6,10 @@ pub returns-in_err-at_step : goal.returns-in_err-at_step
 returns-in_err-at_step g c =
     let p = err_from_is_err_and c.from_residual.result c.from_residual.ensures.1 in
     rw (p.1, p.2) (broken_off g.K.Kind.theory c.args.row.now c.args.run.now _ _ c.apply.new.run
-    (one_more g.K.Kind.theory c.args.row.now c.args.run.now g.met.K.Kind.lawful c.loop-i.i c.index-row-i.result c.loop-i.run c.apply.result _ c.apply.new.run
-    c.loop-i-test.true c.index-row-i.is c.loop-i.invariant c.apply.ensures c.in_err-at_step.ensures))
+    (one_more g.K.Kind.theory c.args.row.now c.args.run.now g.met.K.Kind.lawful c.loop-step.step c.index-row-step.result c.loop-step.run c.apply.result _ c.apply.new.run
+    c.loop-step-test.true c.index-row-step.is c.loop-step.invariant c.apply.ensures c.in_err-at_step.ensures))
 
-pub loop-i-preserved : goal.loop-i-preserved
-loop-i-preserved g c =
-    one_more g.K.Kind.theory c.args.row.now c.args.run.now g.met.K.Kind.lawful c.loop-i.i c.index-row-i.result c.loop-i.run c.apply.result _ c.apply.new.run
-    c.loop-i-test.true c.index-row-i.is c.loop-i.invariant c.apply.ensures c.in_ok-at_step.ensures
-
-pub returns : goal.returns
-returns g c = rw (take_all c.loop-i.i c.args.row.now c.loop-i-test.false) at c.loop-i.invariant
+pub loop-step-preserved : goal.loop-step-preserved
+loop-step-preserved g c =
+    one_more g.K.Kind.theory c.args.row.now c.args.run.now g.met.K.Kind.lawful c.loop-step.step c.index-row-step.result c.loop-step.run c.apply.result _ c.apply.new.run
+    c.loop-step-test.true c.index-row-step.is c.loop-step.invariant c.apply.ensures c.in_ok-at_step.ensures

@@ -1,26 +1,14 @@
-use Rattle.std.proofs.Common.{get_or, set, sym, refl, ap, ◌∙◌, ap₂, w16, SFits, rules}
+use Rattle.std.proofs.Common.{get_or, set, sym, ap, ◌∙◌, ap₂, w16, SFits, rules, arith}
 use Rattle.std.proofs.lemmas.List.{get_or-set_other}
 use Rattle.std.proofs.lemmas.Bool.{true≢false}
 use Rattle.tables.specs.Table.{place, word}
-use Rattle.tables.proofs.Applied.{found, long, stored, applied, faulted}
+use Rattle.tables.proofs.Applied.{found, long, stored, applied}
 use Rattle.tables.specs.Proofs.Values.{in_range_from_fits}
 use Rattle.tables.proofs.TablesKind.apply.Goals as goal
 
-pub returns-then-run-place : goal.returns-then-run-place
-returns-then-run-place c =
-    let at = found c.args.p.cell c.in-Some.place c.in-Some.ensures in
-    let n = long _ _ c.words.ensures c.if-not-roomy.ensures in
-    let f : SFits w16 c.args.p.old = search rules in
-    let w = stored _ _ f c.cell_word.ensures.modulo in
-    record {
-      applied = faulted c.args.p c.args.run.now n (λ _ h. c.if-run-place.true (ap (λ k. get_or c.args.run.now k 0) at.1 ∙ h ∙ sym w));
-      failed = λ _. refl;
-      others = λ _ _. refl;
-    }
-
 pub returns : goal.returns
 returns c =
-    let at = found c.args.p.cell c.in-Some.place c.in-Some.ensures in
+    let at = found c.args.p.cell c.in_ok-place.place (grind arith) in
     let n = long _ _ c.words.ensures c.if-not-roomy.ensures in
     let f : SFits w16 c.args.p.old = search rules in
     let g : SFits w16 c.args.p.new = search rules in

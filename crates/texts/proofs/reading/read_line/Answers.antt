@@ -11,5 +11,5 @@ grown : (old new : List Change) (b : Bool) (c : Change) → new ≡ cond b (old 
 grown old new true c e w h = ap (all_written controller) e ∙ written_append controller old (c ∷ []) h (and_from _ _ w refl)
 grown old new false c e w h = ap (all_written controller) e ∙ h
 
-pub returns-in_ok-change-in_default : goal.returns-in_ok-change-in_default
-returns-in_ok-change-in_default c = grown (vec_items c.args.options.now.row) (vec_items c.add.new.options.row) (is_ok c.add.result) c.in_ok-change-in_default.change c.add.ensures c.in_ok-change-in_default.ensures
+pub returns-in_ok-change-in-Some : goal.returns-in_ok-change-in-Some
+returns-in_ok-change-in-Some c = grown (vec_items c.args.options.now.row) (vec_items c.add.new.options.row) (is_ok c.add.result) c.in_ok-change-in-Some.change c.add.ensures c.in_ok-change-in-Some.ensures
