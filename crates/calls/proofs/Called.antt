@@ -21,8 +21,9 @@ pub refused_so : {A B E : Type 0} {r : Result A E} {x : E} (f : A → Result B E
 refused_so f e = ap (λ z. and_then z f) e
 
 -- the exit of a `?`
-pub exit_is : {A E : Type 0} {r : Result A E} (x : E) → (y : E) × (r ≡ Err y) × (y ≡ x) → r ≡ Err x
-exit_is x p = p.1 ∙ ap Err p.2
+pub exit_is : {A E : Type 0} (r : Result A E) {x : E} → IsErrAnd r (λ y. y ≡ x) → r ≡ Err x
+exit_is (Ok a) h = absurd h
+exit_is (Err y) h = ap Err h
 
 -- a call whose error was mapped
 pub mapped : {A E G : Type 0} (f : E → G) (r : Result A E) (q : Result A G) (P : E → G → Type 0) → ((e : E) (x : G) → P e x → x ≡ f e)

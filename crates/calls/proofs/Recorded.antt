@@ -12,7 +12,7 @@ use Rattle.histories.specs.Named.{under, patches}
 use Rattle.histories.specs.History.{replay}
 use Rattle.histories.specs.Proofs.NamedLaws.{patches_lawful}
 use Rattle.histories.specs.Flat.{flat}
-use Rattle.forms.specs.Form.{grouped, sound, most_patches, most_changes}
+use Rattle.forms.specs.Form.{grouped, most_patches, most_changes}
 use Rattle.histories.proofs.Stops.{ok_not_err}
 use Rattle.shop.specs.declared.refusal.Refusal.{Refusal}
 use Rattle.shop.specs.declared.refusal.Refusal.TheVariants.{Fault, Full, Overgrown, Torn}
@@ -20,7 +20,7 @@ use Rattle.shop.specs.declared.shop.Shop.{Shop}
 use Rattle.shop.specs.Calls.{or_refused, sound_at, a_name_left, room_for, document}
 use Rattle.shop.specs.Held.{row_at, state_of}
 use Rattle.calls.specs.Run.{LeftInRun, new_document}
-use Rattle.calls.proofs.SoundRow.{tested, a_name, formed as formed_at}
+use Rattle.calls.proofs.SoundRow.{tested, a_name}
 
 -- what is left in a run, behind an answer
 pub left_done : {P F : Type 0} (T : Theory P F) (a : Result T.Doc (Refusal F)) (left : List ℕ) → LeftInRun T a (Ok tt) left → (d : T.Doc) × (a ≡ Ok d) × T.fits d × (left ≡ T.encode d)
@@ -42,9 +42,6 @@ module _ {P F : Type 0} (T : Theory P F) (s : Shop P) (r : ℕ) (cs : List P) (r
   module _ (form : Ok h ≡ sound_at T (state_of s) r) where
     history : sound_at T (state_of s) r ≡ Ok h
     history = sym form
-
-    pub formed : sound T s.counter h ≡ true
-    formed = subst (λ z. sound T s.counter (grouped z) ≡ true) (sym read) (formed_at T s r h form)
 
     abbrev named : Result (Unit {0}) (Refusal F) → Result ℕ (Refusal F)
     named = part (λ _. s.counter + 1) (λ x. x)

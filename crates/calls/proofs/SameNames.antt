@@ -2,6 +2,7 @@
 use Rattle.std.proofs.Common.{◌≡◌, ℕ, Bool, true, false, ◌&&◌, eqb, ◌↔◌, List, [], ◌∷◌, Ok, Result, sym, refl, ap, ◌∙◌}
 use Rattle.std.proofs.lemmas.Bool.{and_parts, and_from, eqb-true, cond_both}
 use Rattle.std.specs.List.{list_all}
+use Rattle.histories.proofs.Removing.{same_test}
 use Rattle.histories.specs.declared.named.Named.{Named}
 use Rattle.histories.specs.History.{holds}
 use Rattle.histories.specs.Agreement.{SameNames}
@@ -14,11 +15,6 @@ use Rattle.shop.specs.Held.{row_at, state_of}
 use Rattle.shop.proofs.Forming.{by_name}
 use Rattle.calls.specs.Level.{all_held, same_names}
 use Rattle.calls.proofs.SoundRow.{held_at}
-
-told_same : (a b : Bool) → (a ≡ true → b ≡ true) → (b ≡ true → a ≡ true) → a ≡ b
-told_same true b f g = sym (f refl)
-told_same false true f g = g refl
-told_same false false f g = refl
 
 twice : (a b : Bool) → (a && b) ≡ (a && (a && b))
 twice true b = refl
@@ -48,7 +44,7 @@ module _ {P : Type 0} where
   pub names_same : (h k : History P) → same_names h k ≡ true ↔ SameNames by_name h k
   names_same h k = (
     λ e n. let (a, b) = and_parts (all_held h k) (all_held k h) e in
-        told_same (holds by_name h n) (holds by_name k n) (λ i. holds_of_in (held_in h k a n (in_of_holds n h i))) (λ i. holds_of_in (held_in k h b n (in_of_holds n k i))),
+        same_test (holds by_name h n) (holds by_name k n) (λ i. holds_of_in (held_in h k a n (in_of_holds n h i))) (λ i. holds_of_in (held_in k h b n (in_of_holds n k i))),
     λ f. and_from (all_held h k) (all_held k h) (in_held h k (λ n i. in_of_holds n k (sym (f n) ∙ holds_of_in i))) (in_held k h (λ n i. in_of_holds n h (f n ∙ holds_of_in i))),
   )
 

@@ -1,28 +1,22 @@
 -- The history of a repository, from its row in the memory of a shop.
-use Rattle.std.proofs.Common.{◌≡◌, ℕ, Bool, true, false, ◌&&◌, List, [], Some, Ok, Err, sym, refl, ap, ◌∙◌, subst}
+use Rattle.std.proofs.Common.{◌≡◌, ℕ, Bool, true, false, [], Ok, Err, sym, refl, ap, ◌∙◌, subst}
 use Rattle.std.proofs.Math.ListN.{get_or-map}
-use Rattle.std.proofs.lemmas.Bool.{and_parts}
-use Rattle.kinds.specs.Bounded.{roomy}
 use Rattle.kinds.specs.Theory.{Theory}
 use Rattle.kinds.specs.Parts.{part}
 use Rattle.kinds.specs.Sequences.{and_then}
 use Rattle.histories.proofs.Stops.{ok_not_err, the_ok}
 use Rattle.forms.specs.Form.{grouped, sound}
 use Rattle.shop.specs.declared.refusal.Refusal.{Refusal}
-use Rattle.shop.specs.declared.refusal.Refusal.TheVariants.{WrongRoom, NoName, Torn}
+use Rattle.shop.specs.declared.refusal.Refusal.TheVariants.{NoName, Torn}
 use Rattle.shop.specs.declared.shop.Shop.{Shop}
 use Rattle.shop.specs.State.{History, at}
-use Rattle.shop.specs.Calls.{or_refused, all_long, enough, sound_at}
+use Rattle.shop.specs.Calls.{or_refused, sound_at}
 use Rattle.shop.proofs.Chains.{test_holds}
 use Rattle.shop.specs.Held.{rows_of, row_at, state_of}
 
 -- a test that was answered
 pub tested : {F : Type 0} (b : Bool) (x : Refusal F) → Ok tt ≡ or_refused b x → b ≡ true
 tested b x e = test_holds b x tt (sym e)
-
--- a run that is handed in with rows that are long enough
-pub run_roomy : {P F : Type 0} (T : Theory P F) (rows : List ℕ) (n : ℕ) → Ok tt ≡ enough T (record { rows = rows; run = Some n }) → roomy T n ≡ true
-run_roomy T rows n e = (and_parts (all_long rows) (roomy T n) (tested (all_long rows && roomy T n) WrongRoom e)).1
 
 -- whether there was a next name
 pub a_name : {F : Type 0} (b : Bool) (k a : ℕ) → Ok a ≡ part (λ _. k) (λ x. x) (or_refused {F = F} b NoName) → (or_refused {F = F} b NoName ≡ Ok tt) × (a ≡ k)

@@ -1,10 +1,10 @@
 // What is looked at before a call changes anything, one refusal each.
-ghost use Rattle.std.specs.Prelude.{◌≡◌, ◌+◌, List, length, nat_lt, IfOk};
+ghost use Rattle.std.specs.Prelude.{◌≡◌, ◌+◌, true, List, length, nat_lt, IfOk};
 ghost use Rattle.kinds.specs.Bounded.{saturated};
 ghost use Rattle.kinds.specs.Parts.{part};
 ghost use Rattle.histories.specs.declared.named.Named.{Named as Under};
 ghost use Rattle.histories.specs.Named.{patches};
-ghost use Rattle.forms.specs.Form.{grouped};
+ghost use Rattle.forms.specs.Form.{grouped, sound};
 ghost use Rattle.shop.specs.Calls.{in_shop, a_patch, sound_at, room_for, or_refused};
 ghost use Rattle.shop.specs.Held.{row_at, state_of};
 ghost use Rattle.shop.specs.declared.refusal.Refusal.TheVariants.{NoName};
@@ -48,6 +48,7 @@ pub(crate) fn sound_at<K: Kind>(
 ) -> Result<&[Named<K::Patch>], Refusal<K::Fault>>
     ensures row { IfOk result (λ row. row.now ≡ row_at shop.now number) }
     ensures history { part (λ row. grouped row.now) (λ x. x) result ≡ sound_at K.Kind.theory (state_of shop.now) number }
+    ensures form { IfOk result (λ row. sound K.Kind.theory shop.now.counter (grouped row.now) ≡ true) }
 {
     let row = shop.row(number);
     or_refused(is_sound::<K>(row, shop.counter), Refusal::Torn(number))?;

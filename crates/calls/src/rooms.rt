@@ -1,5 +1,6 @@
 // The memory that is handed to a call: rows with room for 160 changes, and a run of the kind's words.
-ghost use Rattle.std.specs.Prelude.{◌≡◌};
+ghost use Rattle.std.specs.Prelude.{◌≡◌, true, length, IfOk};
+ghost use Rattle.kinds.specs.Bounded.{roomy};
 ghost use Rattle.shop.specs.Calls.{enough};
 ghost use Rattle.calls.specs.Handed.{with_work, with_run};
 
@@ -17,14 +18,15 @@ pub(crate) fn room_to_show<K: Kind>(
     shop: &Shop<K::Patch>,
     run: &[u32],
 ) -> Result<(), Refusal<K::Fault>>
-    ensures { result ≡ enough K.Kind.theory (with_run shop.now run.now) }
+    ensures answer { result ≡ enough K.Kind.theory (with_run shop.now run.now) }
+    ensures run { IfOk result (λ _. roomy K.Kind.theory (length run.now) ≡ true) }
 {
     let enough = rows_long(shop) && roomy(run, K::words());
     or_refused(enough, Refusal::WrongRoom)
 }
 
-// A call with a work row, and no document run. Not one function with the one above: each caller would test what it was
-// handed itself.
+// A call with a work row, and no document run.
+// Not one function with the one above: it would be handed both answers of the tests, and join them.
 pub(crate) fn room_to_work<K: Kind>(
     shop: &Shop<K::Patch>,
     work: &[Named<K::Patch>],

@@ -22,6 +22,7 @@ module _ {P : Type 0} (name : P → ℕ) where
   apart_distinct (p ∷ h) e =
       let (a, b) = and_parts (not (holds name h (name p))) (apart name h) e in next (not_in (name p) h (not-true (holds name h (name p)) a)) (apart_distinct h b)
 
+  -- What the test tells, in the words of a well-formed history. Nothing cites it yet.
   pub apart_once : (h : List P) → apart name h ≡ true → Once name h
   apart_once h e ps p qs parts = not_held (name p) (ps ++ qs) (in_one_place ps p qs (subst (Distinct name) parts (apart_distinct h e)))
 
@@ -52,11 +53,6 @@ module _ {P : Type 0} where
       let (a, b) = and_parts (not (holds (λ (w : Named (List P)). w.name) h p.name)) (apart (λ (w : Named (List P)). w.name) h) e in
       (s.0, other_name p.name h (not-true (holds (λ (w : Named (List P)). w.name) h p.name) a), apart_told h b s.1)
 
-  -- told apart, they have changes
-  pub told_some : (h : List (Named (List P))) → ToldApart h → AllSome h
-  told_some [] t = tt
-  told_some (p ∷ h) t = (t.0, told_some h t.2)
-
 module _ {P F : Type 0} (T : Theory P F) where
   -- patches that can be written have changes
   pub written_some : (h : List (Named (List P))) → all_written (patches T) h ≡ true → AllSome h
@@ -69,5 +65,6 @@ module _ {P F : Type 0} (T : Theory P F) where
   pub well_formed_apart : (h : List (Named (List P))) → WellFormed (patches T) (λ w. w.name) h → apart (λ w. w.name) h ≡ true
   well_formed_apart h w = once_apart (λ (w : Named (List P)). w.name) h w.once
 
+  -- What the flat row of a well-formed history keeps, as merging asks it. Nothing cites it yet.
   pub well_formed_told : (h : List (Named (List P))) → WellFormed (patches T) (λ w. w.name) h → ToldApart h
   well_formed_told h w = apart_told h (well_formed_apart h w) (written_some h w.writable)

@@ -98,7 +98,3 @@ module _ {P : Type 0} where
   grouped_more row p some e =
       ap grouped (ap (λ z. z ++ flat_of p) (sym (flat_grouped row)) ∙ ap (λ z. flat (grouped row) ++ z) (sym (append-nil (flat_of p))) ∙ sym (flat_append (grouped row) (p ∷ [])))
       ∙ grouped_flat (grouped row ++ p ∷ []) (told_more (grouped row) p (told_grouped row) some e)
-
-  -- two parts of a row whose patches are told apart
-  pub grouped_append : (g h : History P) → ToldApart (g ++ h) → grouped (flat g ++ flat h) ≡ g ++ h
-  grouped_append g h t = ap grouped (sym (flat_append g h)) ∙ grouped_flat (g ++ h) t

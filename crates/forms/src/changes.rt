@@ -35,8 +35,8 @@ pub fn growth_of<K: Kind>(changes: &[K::Patch]) -> u32
         .fold(0, |sum, change| total(1, K::grows_by(*change), sum))
 }
 
-// By how much the inverse of the changes can make a document larger, at most. A function for this and the one above, with
-// a closure for the growth of a change, would be longer than the two.
+// By how much the inverse of the changes can make a document larger, at most.
+// No common function with the one above: with a closure for the growth of a change it would be longer than the two.
 pub fn growth_of_inverse<K: Kind>(changes: &[K::Patch]) -> u32
     ensures { result ≡ saturated (growths K.Kind.theory (inverses K.Kind.theory changes.now)) }
 {

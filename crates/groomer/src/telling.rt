@@ -1,4 +1,4 @@
-// What went wrong, as a person reads it.
+// What went wrong, as a person reads it: sentences with names of options in them, which an error alone does not hold.
 use anyhow::bail;
 use kinds::answers::{Clash, Failure};
 use kinds::steps::AtStep;
@@ -31,7 +31,8 @@ impl<'a> fmt::Display for Name<'a> {
     }
 }
 
-// The option whose changes have the place `at` in the row.
+// The option whose changes have the place `at` in the row. A loop, since `left` counts down
+// from option to option until one reaches past it.
 fn option_at(options: &Options, at: usize) -> Option<&Part> {
     let mut left = at;
     for part in &options.parts {

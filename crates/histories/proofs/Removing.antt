@@ -13,7 +13,7 @@ use Rattle.histories.proofs.Standing.{Stands}
 use Rattle.histories.proofs.ToEnd.{passed_row, passed_last, passed_stands}
 
 -- two tests that are true of the same
-same_test : (a b : Bool) → (a ≡ true → b ≡ true) → (b ≡ true → a ≡ true) → a ≡ b
+pub same_test : (a b : Bool) → (a ≡ true → b ≡ true) → (b ≡ true → a ≡ true) → a ≡ b
 same_test true b f g = sym (f refl)
 same_test false true f g = g refl
 same_test false false f g = refl

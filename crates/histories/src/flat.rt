@@ -18,6 +18,7 @@ use rows::place::Place;
 
 // The first `count` changes of the row commute right over all others, and stand last then. The first that refuses them
 // is told by its name, and the row is of no more use then.
+// Not `rows::pass::pass_over`: that tells a place, and the name that stood there is lost once the row is spoiled.
 fn pass_rest<K: Kind>(row: &mut [Named<K::Patch>], count: usize) -> Result<(), Stop>
     ensures { (ps qs : List (Under K.Patch)) → row.old ≡ ps ++ qs → length ps ≡ count → Passed (passing_by K.Kind.theory ps qs) result row.new }
 {
@@ -90,15 +91,20 @@ pub fn merge<K: Kind>(
         → others.now ≡ flat ws → ToldApart ws → work.old ≡ free ++ flat_of n → length free ≡ length (flat ws) → length n.changes ≡ count
         → BeginsWith count (merged (patches K.Kind.theory) (λ w. w.name) ws n) result work.new }
 {
-    let end = work.len();
-    let room = end.saturating_sub(count);
-    if others.is_empty() || room < others.len() {
+    let mut end = work.len();
+    if end.saturating_sub(count) < others.len() {
         return Ok(());
     }
-    let name = others[0].name;
-    let first = leading::<K>(others, name);
-    let merged = merge_one::<Labelled<K>>(&others[..first], &mut work[room - first..]);
-    merged.map_err(|clash| Stop::at(name, clash))?;
-    // The recursion stays: a loop would have to keep both shorter rows in variables.
-    merge::<K>(&others[first..], &mut work[..end - first], count)
+    // No `for` over `chunk_by`, which the prover does not cover in a generic function.
+    let mut left = others;
+    while let Some(first) = left.first() {
+        let name = first.name;
+        let (patch, later) = left.split_at(leading::<K>(left, name));
+        let start = end - count - patch.len();
+        let merged = merge_one::<Labelled<K>>(patch, &mut work[start..end]);
+        merged.map_err(|clash| Stop::at(name, clash))?;
+        left = later;
+        end -= patch.len();
+    }
+    Ok(())
 }

@@ -5,18 +5,19 @@ ghost use Rattle.histories.specs.Agreement.{HistoriesAgree};
 
 use kinds::answers::Clash;
 use kinds::kind::Kind;
-use std::error::Error;
-use std::fmt;
+use thiserror::Error;
 
 pub mod flat;
 pub mod named;
 
 // What stops a patch on its way through a history.
-#[derive(Clone, Copy, Debug, PartialEq, Eq)]
+#[derive(Clone, Copy, Debug, PartialEq, Eq, Error)]
 pub enum Stop {
     // It does not commute with the patch of this name.
+    #[error("refused by patch {0}")]
     By(u8),
     // A commute on the way is too far.
+    #[error("a commute is too far")]
     TooFar,
 }
 
@@ -34,17 +35,6 @@ impl Stop {
         }
     }
 }
-
-impl fmt::Display for Stop {
-    fn fmt<W: fmt::Write>(&self, f: &mut fmt::Formatter<W>) -> fmt::Result {
-        match self {
-            Stop::By(name) => write!(f, "refused by patch {name}"),
-            Stop::TooFar => write!(f, "a commute is too far"),
-        }
-    }
-}
-
-impl Error for Stop {}
 
 // In every run any two histories with the same names show the same document, each of them can be replayed, and no
 // commute that a step asks for is too far.

@@ -2,6 +2,7 @@
 use Rattle.std.proofs.Common.{◌≡◌, ℕ, ◌+◌, ◌≤◌, Bool, true, false, ◌⊎◌, List, [], ◌∷◌, ◌++◌, length, Some, None, Ok, Err, Option, Result, sym, refl, ap, ◌∙◌, subst, inl, inr, ⊎_elim, append_assoc, append-nil, zero-add, arith, length-append}
 use mathlib.Core.Logic.{⊎_map}
 use Rattle.std.proofs.lemmas.Bool.{and_parts, and_from, or_parts, or_from}
+use Rattle.kinds.proofs.Cases.{ok_one, some_one}
 use Rattle.kinds.specs.Theory.{Theory}
 use Rattle.kinds.specs.Laws.{most, Takes, Commutes, Undo, SwapBack, Turning, FrontFirst, BackFirst, Lawful}
 use Rattle.kinds.specs.Parts.{part}
@@ -27,33 +28,27 @@ is_ok_and_not : {A E : Type 0} (r : Result A E) (f : A → Bool) → ((a : A) �
 is_ok_and_not (Ok a) f h = h a refl
 is_ok_and_not (Err x) f h = refl
 
-pub the_some : {A : Type 0} {a b : A} → Some a ≡ Some b → a ≡ b
-the_some {A} {a} {b} e = cc
-
-the_ok : {A E : Type 0} {a b : A} → ◌≡◌ {A = Result A E} (Ok a) (Ok b) → a ≡ b
-the_ok {A} {E} {a} {b} e = cc
-
 module _ {P F : Type 0} (T : Theory P F) where
   open T use {Doc, size, apply, invert, commute, growth, written, far, full, fits}
 
   -- the rule of commuting and the grid, both ways
   pub row_of : (ps : List P) (q : P) (r : P × List P) → over T ps q ≡ Some r → Row T ps q r.0 r.1
-  row_of [] q r e = subst (λ (z : P × List P). Row T [] q z.0 z.1) (the_some e) nil
+  row_of [] q r e = subst (λ (z : P × List P). Row T [] q z.0 z.1) (some_one _ _ e) nil
   row_of (p ∷ ps) q r e =
       let (x, a, b) = some_then (over T ps q) _ r e in
       let (y, c, f) = some_then (commute p x.0) _ r b in
-      subst (λ (z : P × List P). Row T (p ∷ ps) q z.0 z.1) (the_some f) (cons (row_of ps q x a) c)
+      subst (λ (z : P × List P). Row T (p ∷ ps) q z.0 z.1) (some_one _ _ f) (cons (row_of ps q x a) c)
 
   pub of_row : {ps ps' : List P} {q q' : P} → Row T ps q q' ps' → over T ps q ≡ Some (q', ps')
   of_row nil = refl
   of_row (cons h c) = rw (of_row h, c)
 
   pub grid_of : (ps qs : List P) (r : List P × List P) → all_over T ps qs ≡ Some r → Grid T ps qs r.0 r.1
-  grid_of ps [] r e = subst (λ (z : List P × List P). Grid T ps [] z.0 z.1) (the_some e) stop
+  grid_of ps [] r e = subst (λ (z : List P × List P). Grid T ps [] z.0 z.1) (some_one _ _ e) stop
   grid_of ps (q ∷ qs) r e =
       let (x, a, b) = some_then (over T ps q) _ r e in
       let (y, c, f) = some_then (all_over T x.1 qs) _ r b in
-      subst (λ (z : List P × List P). Grid T ps (q ∷ qs) z.0 z.1) (the_some f) (more (row_of ps q x a) (grid_of x.1 qs y c))
+      subst (λ (z : List P × List P). Grid T ps (q ∷ qs) z.0 z.1) (some_one _ _ f) (more (row_of ps q x a) (grid_of x.1 qs y c))
 
   pub of_grid : {ps qs qs' ps' : List P} → Grid T ps qs qs' ps' → all_over T ps qs ≡ Some (qs', ps')
   of_grid stop = refl
@@ -91,7 +86,7 @@ module _ {P F : Type 0} (T : Theory P F) where
     step : {p : P} {ps : List P} {d m e : Doc} → Takes T p d m → Run ps m e → Run (p ∷ ps) d e
 
   pub run_of : (n : ℕ) (ps : List P) (d e : Doc) → apply_from T n ps d ≡ Ok e → Run ps d e
-  run_of n [] d e h = subst (λ (z : Doc). Run [] d z) (the_ok h) end
+  run_of n [] d e h = subst (λ (z : Doc). Run [] d z) (ok_one _ _ h) end
   run_of n (p ∷ ps) d e h =
       let (m, a, b) = ok_then (part (λ x. x) (found_at n) (apply p d)) _ e h in
       let (m', c, f) = part_ok (λ x. x) (found_at n) (apply p d) m a in

@@ -2,28 +2,18 @@
 ghost use Rattle.std.specs.Prelude.{◌≡◌};
 ghost use Rattle.kinds.specs.Parts.{FaultMapped, fault_or_failure};
 
-use std::error::Error;
-use std::fmt;
+use thiserror::Error;
 
 // Why two neighbouring patches were not commuted.
-#[derive(Clone, Copy, Debug, PartialEq, Eq)]
+#[derive(Clone, Copy, Debug, PartialEq, Eq, Error)]
 pub enum Clash {
     // The two depend on each other.
+    #[error("the patches depend on each other")]
     Refused,
     // A patch on the way has a number that its field cannot hold.
+    #[error("a number would be too large to be written")]
     TooFar,
 }
-
-impl fmt::Display for Clash {
-    fn fmt<W: fmt::Write>(&self, f: &mut fmt::Formatter<W>) -> fmt::Result {
-        match self {
-            Clash::Refused => write!(f, "the patches depend on each other"),
-            Clash::TooFar => write!(f, "a number would be too large to be written"),
-        }
-    }
-}
-
-impl Error for Clash {}
 
 // Why a patch was not applied to the words of a document.
 #[derive(Clone, Copy, Debug, PartialEq, Eq)]

@@ -11,7 +11,7 @@ pub fn total(count: u32, each: u32, more: u32) -> u32
     count.saturating_mul(each).saturating_add(more)
 }
 
-// Whether a run can hold a document of so many words.
+// Whether a run can hold a document of so many words. A test and no refusal, so that each caller says what it refuses.
 pub fn roomy(run: &[u32], words: u32) -> bool
     ensures { result ≡ (length run.now == words) && nat_lt words largest }
 {

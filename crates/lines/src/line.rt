@@ -2,20 +2,12 @@ ghost use Rattle.std.specs.Prelude.{◌≡◌, true, ◌↔◌, length, is_ok, i
 ghost use Rattle.kinds.specs.Bounded.{saturated};
 ghost use Rattle.lines.specs.Line.{Form};
 
-use std::error::Error;
-use std::fmt;
+use thiserror::Error;
 
 // The run is not as long as a line.
-#[derive(Clone, Copy, Debug, PartialEq, Eq)]
+#[derive(Clone, Copy, Debug, PartialEq, Eq, Error)]
+#[error("the run is not as long as a line")]
 pub struct WrongLength;
-
-impl fmt::Display for WrongLength {
-    fn fmt<W: fmt::Write>(&self, f: &mut fmt::Formatter<W>) -> fmt::Result {
-        write!(f, "the run is not as long as a line")
-    }
-}
-
-impl Error for WrongLength {}
 
 // A type of the lines of a list. Every line fills the same number of words.
 pub trait Line: Copy + Eq {

@@ -4,8 +4,8 @@ ghost use Rattle.std.proofs.Common.{rules};
 
 use crate::line::{Line, WrongLength};
 
-// A note line: sixteen bytes in four words, the first byte lowest. It has four fields and no array of four words, since
-// an array has any length in a law, where every value is to be read back the same.
+// A note line: sixteen bytes in four words, the first byte lowest.
+// Four fields and no array: in a law an array has any length, and every value is to be read back the same.
 #[derive(Clone, Copy, Debug, PartialEq, Eq)]
 pub struct Note {
     pub first: u32,
@@ -49,6 +49,7 @@ fn may_stand(b: u8, ended: bool) -> bool
 fn is_text_and_zeros(bytes: &[u8]) -> bool
     ensures { result ≡ text_and_zeros bytes.now }
 {
+    // A loop and no `all`: of a closure that changes `ended` the prover would know nothing.
     let mut ended = false;
     for b in bytes {
         if !may_stand(*b, ended) {

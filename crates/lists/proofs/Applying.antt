@@ -3,7 +3,7 @@ use Rattle.std.proofs.Common.{◌≡◌, ℕ, ◌-◌, ◌<◌, ◌≤◌, Bool,
 use borrow.Rule.Slice.PartMut.{put_mid}
 use Rattle.std.proofs.lemmas.Bool.{both_ways, and_from, and_parts, eqb-true, ltb-true, eq-eqb, lt-ltb}
 use Rattle.std.proofs.lemmas.List.{take_rest, append-nil, drop_all}
-use Rattle.kinds.specs.Bounded.{saturated, largest, outcome, roomy, holding, done_or_fault, Applied}
+use Rattle.kinds.specs.Bounded.{saturated, largest, outcome, roomy, done_or_fault, Applied}
 use Rattle.kinds.specs.Laws.{most, Takes}
 use Rattle.kinds.specs.Parts.{part}
 use Rattle.kinds.specs.declared.answers.Failure.{Failure}
@@ -32,10 +32,6 @@ module _ {L : Type 0} (F : Form L) (h : Hunk L) where
   told_length (Ok e) n t = (e, refl, cc)
   told_length (Err f) n t = let z : ◌≡◌ {A = ℕ} 0 1 = cc in absurd (omega arith)
 
-  told_failure : (x : Result (List L) (Failure ListFault)) (f : Failure ListFault) → Err f ≡ part (λ (e : List L). length e) (λ f. f) x → x ≡ Err f
-  told_failure (Ok e) f t = let z : ◌≡◌ {A = ℕ} 0 1 = cc in absurd (omega arith)
-  told_failure (Err g) f t = cc
-
   -- an outcome that is a list is what the hunk makes of the list
   made_by : (r : Result (List L) ListFault) (e : List L) → cond (too_long r) (Err Overfull) (done_or_fault r) ≡ Ok e → r ≡ Ok e
   made_by (Ok x) e o = fitting (ltb most (length x)) o
@@ -48,15 +44,6 @@ module _ {L : Type 0} (F : Form L) (h : Hunk L) where
   -- the words of a list, in two parts
   parts_of : (run : List ℕ) (d : List L) → run ≡ length d ∷ filled_up F d → (length d ≡ get_or run 0 0) × (take (length run - 1) (drop 1 run) ≡ filled_up F d)
   parts_of run d e = (sym (ap (λ x. get_or x 0 0) e), take_rest run 1 ∙ ap (drop 1) e)
-
-  -- a failure leaves the words as they were
-  pub failed : (run : List ℕ) (r : Result (Unit {0}) (Failure ListFault)) (f : Failure ListFault) (words : ℕ) → words ≡ saturated (lists F).width → true ≡ eqb (length run) words && ltb words largest → r ≡ Err f
-      → ((d : List L) → length d ≡ get_or run 0 0 → take (length run - 1) (drop 1 run) ≡ filled_up F d → Err f ≡ part (λ (e : List L). length e) (λ f. f) (outcome (lists F) h d))
-      → Applied (lists F) h run r run
-  failed run r f words s room is told = record {
-    refused = λ no. absurd (both_ways (roomy (lists F) (length run)) no (has_room (length run) (lists F).width words s room));
-    done = λ d fits e _. let (l, q) = parts_of run d e in (d, fits, e, told_failure (outcome (lists F) h d) f (told d l q) ∙ sym (ap (λ x. holding x d) is));
-  }
 
   pub succeeded : (run lines : List ℕ) (n words : ℕ) → words ≡ saturated (lists F).width → true ≡ eqb (length run) words && ltb words largest → n ≤ most
       → ((d : List L) → length d ≡ get_or run 0 0 → take (length run - 1) (drop 1 run) ≡ filled_up F d → Ok n ≡ part (λ (e : List L). length e) (λ f. f) (outcome (lists F) h d))

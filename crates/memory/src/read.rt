@@ -30,5 +30,6 @@ pub fn rows_long<P>(shop: &Shop<P>) -> bool
 {
     shop.repositories
         .iter()
-        .all(|repository| repository.row.len() >= MOST_CHANGES)
+        .map(|repository| repository.row.len())
+        .all(|room| room >= MOST_CHANGES)
 }

@@ -22,6 +22,7 @@ pub fn part<P>(row: &[Named<P>], place: Place) -> &[Named<P>]
 }
 
 // The row becomes what `entry` tells of each place.
+// Not `iter_mut().zip(..)` with an iterator of entries: behind such an adapter the prover knows no entry of the row.
 fn write<T: Copy, F: Fn(usize) -> T>(row: &mut [T], entry: F)
     requires { (i : ℕ) → i < length row.old → F.pre entry i }
     ensures { (xs : List T) → length xs ≡ length row.old → TellsEach (F.post entry) xs → row.new ≡ xs }

@@ -11,8 +11,7 @@ use kinds::answers::{Clash, Failure};
 use kinds::counts::{roomy, total};
 use kinds::kind::Kind;
 
-// The number of a module: 0 basic, 1 winch, 2 tiller. A number and no enum, so that one that no module has can be told
-// and refused.
+// The number of a module: 0 basic, 1 winch, 2 tiller. No enum, so that one that no module has can be told and refused.
 #[derive(Clone, Copy, Debug, PartialEq, Eq)]
 pub struct Module(pub u8);
 

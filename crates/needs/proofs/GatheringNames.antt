@@ -1,4 +1,5 @@
 -- Where needed patches came to the front of a history, the needed ones have the names that they had, in the same order, and so have the others. No change is lost.
+-- Nothing cites it yet: it is what pulling a patch with its needs has to know of gathering.
 use Rattle.std.proofs.Common.{◌≡◌, ℕ, ◌+◌, ◌<◌, Bool, true, false, cond, not, ◌||◌, eqb, List, [], ◌∷◌, ◌++◌, map, length, Ok, filter, sym, refl, ap, ◌∙◌, subst, append_assoc, append-nil, arith, length-append}
 use Rattle.std.proofs.ByRecursion.{all_kept_by}
 use Rattle.std.proofs.lemmas.List.{map-append, length-map}

@@ -64,7 +64,7 @@ pub fn find_block<K: Kind>(
     }
     let name = row[0].name;
     let first = leading::<K>(&row[..before], name);
-    // The recursion stays: the last patch comes first, and where each one starts is only seen from the front.
+    // A recursion, since a loop from the end would have to walk back over each name to find where its patch begins.
     let needs = find_block::<K>(&mut row[first..], work, count)?;
     try_on_block::<K>(&mut row[..first + needs + count], work, first, count)
 }

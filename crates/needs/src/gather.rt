@@ -11,7 +11,7 @@ use kinds::answers::Clash;
 use kinds::kind::Kind;
 use rows::pass::carry_left;
 
-// Whether a change of the row has the name. What `forms::find::holds` says of the patches of a row, by their names too.
+// Whether a change of the row has the name. This is promised of the changes, and by `forms::find::holds` of the patches.
 pub fn holds_name<K: Kind>(row: &[Named<K::Patch>], name: u8) -> bool
     ensures { result ≡ holds (λ c. c.name) row.now name }
 {

@@ -23,8 +23,8 @@ pub struct Part {
     pub count: usize,
 }
 
-// Options, in the order in which they are put on: their changes stand in one row, those of each option together, since
-// what is done with options is done with the row of all of them.
+// Options, in the order in which they are put on: their changes stand in one row, those of each option together.
+// One row and none in each part, since options are put on and taken off in the row of all.
 #[derive(Debug, Drop, PartialEq, Eq)]
 pub struct Options {
     pub parts: Vec<Part>,
@@ -43,6 +43,7 @@ pub enum Stuck {
     By(AtStep<Clash>),
 }
 
+// The conversions are by hand, since clauses name the error that they make, and a derived one has no contract.
 impl From<AllocError> for Stuck {
     ghost from_gives = { λ _ stuck. stuck ≡ no_memory };
 

@@ -41,10 +41,10 @@ found (Right (Left (Ends n))) = (PastEnd, Rules, n)
 found (Right (Left (Differs k))) = (LineDiffers, Rules, k)
 found (Right (Right (OtherValue c))) = (CellDiffers, Table, place c)
 
-abbrev told_sheet : Cause → Module → Sheet → Told
+abbrev pub told_sheet : Cause → Module → Sheet → Told
 told_sheet c m a = record { cause = c; «module» = m; sheet = a; place = None }
 
-abbrev told_step : Module → Sheet → ℕ → Cause × Part × ℕ → Told
+abbrev pub told_step : Module → Sheet → ℕ → Cause × Part × ℕ → Told
 told_step m a n f = record { cause = f.0; «module» = m; sheet = a; place = Some (record { step = n; part = f.1; position = f.2 }) }
 
 -- a module that is not there has no sheets: its sheet 0 is absent; a fault of a whole sheet has no place in it
@@ -55,7 +55,7 @@ told (Inside m (There a)) = told_sheet SheetThere m a
 told (Inside m (Filled a)) = told_sheet NotFresh m a
 told (Inside m (InSheet a f)) = told_step m a f.step (found f.fault)
 
-abbrev numbers_at : Cause → Module → Sheet → Option Place → Numbers
+abbrev pub numbers_at : Cause → Module → Sheet → Option Place → Numbers
 numbers_at c m a None = record { cause = cause_number c; «module» = m.0; sheet = a.0; step = 0; part = 0; position = 0 }
 numbers_at c m a (Some p) = record { cause = cause_number c; «module» = m.0; sheet = a.0; step = p.step; part = part_number p.part; position = p.position }
 

@@ -85,6 +85,7 @@ impl From<Part> for u8 {
     }
 }
 
+// By hand, since a cause is told of a fault and is no error itself.
 impl fmt::Display for Cause {
     fn fmt<W: fmt::Write>(&self, f: &mut fmt::Formatter<W>) -> fmt::Result {
         f.write_str(match self {
@@ -134,6 +135,7 @@ fn find(fault: StepFault) -> (Cause, Part, u32)
         Side::Right(Side::Right(CellFault::Differs(cell))) => (
             Cause::CellDiffers,
             Part::Table,
+            // Not `Cell::place`: a cell that no table has is told too.
             u32::from(cell.row) * 8 + u32::from(cell.column),
         ),
     }

@@ -163,6 +163,10 @@ absent_at w a run = done_or_fault (if_absent a (Ok (a.0 * w)) (told w a run))
 abbrev pub moved_words : ℕ → ℕ → ℕ → List ℕ → List ℕ
 moved_words from to n run = paste (paste run to (drop from run) n) from (replicate n 0) n
 
+-- A run is four runs of w words, one behind the other.
+abbrev pub FourRuns : ℕ → List ℕ → Type 0
+FourRuns w run = (length run ≡ 4 * w) × (0 < w)
+
 -- A run holds four sheets of w words, where w is a sheet's number of words in the kind T.
 abbrev pub FourSheets : {P F : Type 0} → Theory P F → ℕ → List ℕ → Type 0
 FourSheets T w run = (w ≡ 1 + T.width) × (length run ≡ 4 * w) × (4 * w < largest)

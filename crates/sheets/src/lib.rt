@@ -6,13 +6,13 @@ ghost use Rattle.kinds.specs.Bounded.{Applied, saturated};
 ghost use Rattle.std.specs.List.{list_all};
 ghost use Rattle.sheets.specs.declared.SheetChange.TheVariants.{Create as creating, Remove as removing, Move as moving, Inside as changing};
 ghost use Rattle.sheets.specs.Proofs.SheetLaws.{sheets_lawful};
-ghost use Rattle.sheets.specs.Sheets.{touches as is_of, share as are_of_one, there_at, absent_at, moved_words, FourSheets, Worked, Others, sheets as the_sheets};
+ghost use Rattle.sheets.specs.Sheets.{touches as is_of, share as are_of_one, there_at, absent_at, moved_words, FourRuns, FourSheets, Worked, Others, sheets as the_sheets};
 
 use kinds::answers::{Clash, Failure};
 use kinds::counts::{roomy, total};
 use kinds::kind::Kind;
 
-// The number of a sheet, from 0 to 3. A number and no enum, so that one that no sheet has can be told and refused.
+// The number of a sheet, from 0 to 3. No enum, so that one that no sheet has can be told and refused.
 #[derive(Clone, Copy, Debug, PartialEq, Eq)]
 pub struct Sheet(pub u8);
 
@@ -69,40 +69,36 @@ fn share<P: Copy>(c: SheetChange<P>, d: SheetChange<P>) -> bool
     }
 }
 
-// Where the words of the sheet a begin, and whether it is there, of four sheets of `width` words each.
-fn find(run: &[u32], width: usize, a: Sheet) -> Option<(usize, bool)>
-    requires { (length run.now ≡ 4 * width) × (0 < width) }
-    ensures found { result ≡ (if nat_lt a.0 4 then Some (a.0 * width, not (slice_index run.now (a.0 * width) == 0)) else None) }
-    ensures within { IfSome result (λ p. p.0 + width ≤ length run.now) }
+// Where the words of the sheet a begin, of four sheets of `width` words each.
+fn find(run: &[u32], width: usize, a: Sheet) -> Option<usize>
+    requires { FourRuns width run.now }
+    ensures found { result ≡ (if nat_lt a.0 4 then Some (a.0 * width) else None) }
+    ensures within { IfSome result (λ at. at + width ≤ length run.now) }
 {
-    if a.0 >= COUNT {
-        return None;
-    }
-    let at = a.0 as usize * width;
-    Some((at, run[at] != 0))
+    (a.0 < COUNT).then(|| usize::from(a.0) * width)
 }
 
 // Where the words of the sheet a begin, if it is there.
 fn find_there<F>(run: &[u32], width: usize, a: Sheet) -> Result<usize, Failure<SheetFault<F>>>
-    requires { (length run.now ≡ 4 * width) × (0 < width) }
+    requires { FourRuns width run.now }
     ensures found { result ≡ there_at width a run.now }
     ensures within { IfOk result (λ at. at + width ≤ length run.now) }
 {
     match find(run, width, a) {
-        Some((at, true)) => Ok(at),
+        Some(at) if run[at] != 0 => Ok(at),
         _ => Err(Failure::Fault(SheetFault::Absent(a))),
     }
 }
 
 // Where the words of the sheet a begin, if it is absent.
 fn find_absent<F>(run: &[u32], width: usize, a: Sheet) -> Result<usize, Failure<SheetFault<F>>>
-    requires { (length run.now ≡ 4 * width) × (0 < width) }
+    requires { FourRuns width run.now }
     ensures found { result ≡ absent_at width a run.now }
     ensures within { IfOk result (λ at. at + width ≤ length run.now) }
 {
     match find(run, width, a) {
-        Some((at, false)) => Ok(at),
-        Some((_, true)) => Err(Failure::Fault(SheetFault::There(a))),
+        Some(at) if run[at] == 0 => Ok(at),
+        Some(_) => Err(Failure::Fault(SheetFault::There(a))),
         None => Err(Failure::Fault(SheetFault::Absent(a))),
     }
 }
@@ -124,8 +120,8 @@ fn move_words(run: &mut [u32], from: usize, to: usize, count: usize)
 }
 
 // The four changes of a run that holds four sheets of `width` words each. An absent sheet's words are all zero,
-// and so are those of a fresh document, so that creating and removing write the first word only. The run and the width
-// stay two parameters: of a struct that holds a lent run each contract would have to say what comes back.
+// and so are those of a fresh document, so that creating and removing write the first word only.
+// Run and width are two parameters: of a struct that holds a lent run each contract would say what comes back.
 fn create<K: Kind>(
     a: Sheet,
     run: &mut [u32],
@@ -247,7 +243,7 @@ impl<K: Kind> Kind for Sheets<K> {
                     SheetChange::Inside(a, first),
                 ))
             }
-            // The guards compare the numbers: the prover does not cover a call, as of `==`, before p and q are used again.
+            // Numbers in the guards: the prover does not cover a call of `==` there before p and q are used again.
             (SheetChange::Move { from, to }, SheetChange::Inside(a, x)) if a.0 == to.0 => Ok((
                 SheetChange::Inside(from, x),
                 p,

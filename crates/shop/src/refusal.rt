@@ -4,45 +4,47 @@ ghost use Rattle.shop.specs.Refusals.{number as number_of_lem, failure_told};
 
 use kinds::answers::Failure;
 use kinds::steps::AtStep;
-use std::error::Error;
-use std::fmt;
+use std::fmt::Debug;
+use thiserror::Error;
 
-#[derive(Clone, Copy, Debug, PartialEq, Eq)]
+#[derive(Clone, Copy, Debug, PartialEq, Eq, Error)]
+#[error_bound(F: Debug)]
 pub enum Refusal<F> {
-    // There is no repository of this number.
+    #[error("refusal {}: there is no repository {}", self.number(), .0)]
     NoRepository(u8),
-    // Giver and taker are one.
+    #[error("refusal {}: giver and taker are one", self.number())]
     SameRepository,
     // The document run has another length than the kind's words, or a row has room for less than 160 changes.
+    #[error("refusal {}: the document run or a row has the wrong length", self.number())]
     WrongRoom,
-    // A patch has one to eight changes.
+    #[error("refusal {}: a patch has one to eight changes", self.number())]
     WrongCount,
-    // The change at this place has a field out of range.
+    #[error("refusal {}: change {} has a field out of range", self.number(), .0)]
     Unwritable(usize),
-    // The name is not held.
+    #[error("refusal {}: the name is not held", self.number())]
     NotHeld,
-    // The taker holds the name.
+    #[error("refusal {}: the taker holds the name", self.number())]
     AlreadyHeld,
-    // The change at this place does not apply.
+    #[error("refusal {}: change {} does not apply: {:?}", self.number(), .0.step, .0.fault)]
     Fault(AtStep<F>),
-    // The taker lacks the patch of this name, which the pulled one needs.
+    #[error("refusal {}: the taker lacks patch {}, which is needed", self.number(), .0)]
     Lacking(u8),
-    // The pulled patch clashes with the taker's patch of this name.
+    #[error("refusal {}: it clashes with patch {} of the taker", self.number(), .0)]
     Clashes(u8),
-    // The later patch of this name depends on it.
+    #[error("refusal {}: the later patch {} depends on it", self.number(), .0)]
     NeededBy(u8),
-    // All names are given out.
+    #[error("refusal {}: all names are given out", self.number())]
     NoName,
-    // The repository would hold more than 40 patches or 160 changes.
+    #[error("refusal {}: more than 40 patches or 160 changes would be held", self.number())]
     Full,
-    // The repository would grow beyond 120.
+    #[error("refusal {}: the repository would grow beyond 120", self.number())]
     Overgrown,
-    // The history of this repository is damaged.
+    #[error("refusal {}: the history of repository {} is damaged", self.number(), .0)]
     Torn(u8),
 }
 
 impl<F> Refusal<F> {
-    // The number that the rules give it. A method and no `From`, whose name would not say whose number it is.
+    // The number that the rules give it. A public method: its name says which number, where a `From` into `u8` would not.
     pub fn number(&self) -> u8
         ensures { result ≡ number_of_lem self.now }
     {
@@ -78,39 +80,6 @@ impl<F> From<Failure<AtStep<F>>> for Refusal<F> {
         }
     }
 }
-
-// The number that the rules give it, and why the call was refused.
-impl<F: fmt::Debug> fmt::Display for Refusal<F> {
-    fn fmt<W: fmt::Write>(&self, f: &mut fmt::Formatter<W>) -> fmt::Result {
-        write!(f, "refusal {}: ", self.number())?;
-        match self {
-            Refusal::NoRepository(repository) => write!(f, "there is no repository {repository}"),
-            Refusal::SameRepository => write!(f, "giver and taker are one"),
-            Refusal::WrongRoom => write!(f, "the document run or a row has the wrong length"),
-            Refusal::WrongCount => write!(f, "a patch has one to eight changes"),
-            Refusal::Unwritable(place) => write!(f, "change {place} has a field out of range"),
-            Refusal::NotHeld => write!(f, "the name is not held"),
-            Refusal::AlreadyHeld => write!(f, "the taker holds the name"),
-            Refusal::Fault(fault) => write!(
-                f,
-                "change {} does not apply: {:?}",
-                fault.step, fault.fault
-            ),
-            Refusal::Lacking(name) => write!(f, "the taker lacks patch {name}, which is needed"),
-            Refusal::Clashes(name) => write!(f, "it clashes with patch {name} of the taker"),
-            Refusal::NeededBy(name) => write!(f, "the later patch {name} depends on it"),
-            Refusal::NoName => write!(f, "all names are given out"),
-            Refusal::Full => write!(f, "more than 40 patches or 160 changes would be held"),
-            Refusal::Overgrown => write!(f, "the repository would grow beyond 120"),
-            Refusal::Torn(repository) => write!(
-                f,
-                "the history of repository {repository} is damaged"
-            ),
-        }
-    }
-}
-
-impl<F: fmt::Debug + Drop> Error for Refusal<F> {}
 
 #[cfg(test)]
 mod tests {

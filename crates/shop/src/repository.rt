@@ -5,7 +5,7 @@ use histories::named::Named;
 
 // The first `count` entries of the row are the changes of the history, each under the name of its patch. What stands
 // behind them is free: a row is fixed memory that the caller hands in, so its count stands beside it. Two
-// repositories are equal if all their entries are, free ones too.
+// repositories are equal if their counts and all entries of their rows are, free ones too.
 #[derive(Debug, Drop, PartialEq, Eq)]
 pub struct Repository<P> {
     pub row: Vec<Named<P>>,

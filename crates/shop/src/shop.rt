@@ -4,6 +4,7 @@ ghost use Rattle.std.specs.Prelude.{◌≡◌, length};
 use crate::repository::Repository;
 use histories::named::Named;
 
+// An array, found by number: the rules have four repositories, and name them by the numbers 0 to 3.
 #[derive(Debug, Drop, PartialEq, Eq)]
 pub struct Shop<P> {
     pub repositories: [Repository<P>; 4],

@@ -26,8 +26,8 @@ pub struct Sides<L, R> {
     right: R,
 }
 
-// A failure of the left side, with its place added. It is no closure, and no function for both sides that takes one: the
-// prover does not cover a closure whose result has a type, here G, that is none of its arguments'.
+// A failure of the left side, with its place added.
+// A match and no `map`: the prover covers no closure or constructor whose result has a type, as G, of no argument.
 fn at_left<F, G>(r: Result<(), Failure<F>>) -> Result<(), Failure<Side<F, G>>>
     ensures { result ≡ failing to_left r }
 {
@@ -37,7 +37,7 @@ fn at_left<F, G>(r: Result<(), Failure<F>>) -> Result<(), Failure<Side<F, G>>>
     }
 }
 
-// A failure of the right side, with its place added.
+// A failure of the right side, with its place added. For the same reason a match of its own.
 fn at_right<F, G>(r: Result<(), Failure<G>>) -> Result<(), Failure<Side<F, G>>>
     ensures { result ≡ failing to_right r }
 {

@@ -39,16 +39,13 @@ impl Cell {
     pub fn place(self) -> Option<usize>
         ensures { result ≡ (if in_table self then Some (place_of self) else None) }
     {
-        if self.row < 8 && self.column < 8 {
-            Some(self.row as usize * 8 + self.column as usize)
-        } else {
-            None
-        }
+        let inside = self.row < 8 && self.column < 8;
+        inside.then(|| usize::from(self.row) * 8 + usize::from(self.column))
     }
 }
 
-// The word of a cell that holds the value: the value modulo 65,536. This and the next are functions and no `From`, since
-// both types are the library's.
+// The word of a cell that holds the value: the value modulo 65,536.
+// This and the next are functions and no `From`, since both types are the library's.
 pub fn cell_word(value: i16) -> u32
     ensures modulo { result ≡ word_of value }
     ensures exact { (v : ℤ) → in_range v ≡ true → result ≡ word_of v → v ≡ value }

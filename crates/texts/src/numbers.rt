@@ -15,7 +15,7 @@ fn digits(text: &[u8], base: u32) -> Option<u32>
     })
 }
 
-// A number in decimal digits, or in hexadecimal ones behind 0x.
+// A number in decimal digits, or in hexadecimal ones behind 0x: no `FromStr` of the library reads both.
 fn number(text: &[u8]) -> Option<u32> {
     match text {
         [b'0', b'x', rest @ ..] => digits(rest, 16),

@@ -12,7 +12,7 @@ pub(crate) enum Word<'a> {
 }
 
 // The words that are left of a line, up to its comment.
-#[derive(Clone, Copy)]
+#[derive(Clone, Debug, Drop)]
 pub(crate) struct Words<'a> {
     rest: &'a [u8],
 }

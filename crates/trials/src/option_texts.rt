@@ -154,7 +154,7 @@ mod tests {
         }
     }
 
-    // The winch's line holds the tiller's back, which stands right behind it.
+    // The tiller's line stands right behind the winch's, so the winch cannot be taken off.
     #[test]
     fn a_later_option_holds_an_earlier_one(rt: HostRuntime) -> Result<(), Fail> {
         let text =

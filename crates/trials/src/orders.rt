@@ -85,7 +85,7 @@ mod tests {
         Ok(())
     }
 
-    // A sheet that is not fresh, two floors down.
+    // A sheet of a sheet is absent: the fault tells both.
     #[test]
     fn faults_two_floors_down(rt: HostRuntime) -> Result<(), Fail> {
         let mut run = vec![in rt.alloc(); 0u32; 1956]?;

@@ -1,6 +1,5 @@
 use Rattle.std.proofs.Common.{rules, sym, ◌∙◌}
 use Rattle.std.proofs.lemmas.List.{length-take-le}
-use Rattle.std.proofs.lemmas.Result.{err_from_is_err_and}
 use Rattle.shop.specs.Calls.{needed_by}
 use Rattle.calls.proofs.Called.{exit_is, mapped}
 use Rattle.calls.proofs.InWork.{copy_within, start_in_work, stopped_in_work}
@@ -22,7 +21,7 @@ returns-in_err-start g c =
     (rw c.in_ok-history.ensures.row at c.in_ok-history.ensures.history) c.copy-n.new.work c.copy-n.result c.copy-n.ensures.count c.copy-n.ensures.work
     c.in_ok-place.place (sym c.in_ok-place.ensures.ok_part ∙ (rw c.in_ok-history.ensures.row at c.find.ensures.found)) c.pass_to_end-passed.result c.pass_to_end-passed.new.row _ c.pass_to_end-passed.ensures
     c.map_err.result (mapped (needed_by g.K.Kind.theory c.args.number) c.pass_to_end-passed.result c.map_err.result _ (λ e x p. search rules) c.map_err.ensures.cases)
-    _ c.in_err-start.was _ (exit_is _ (err_from_is_err_and c.from_residual-in_err-start.result c.from_residual-in_err-start.ensures.1))
+    _ c.in_err-start.was _ (exit_is _ c.from_residual-in_err-start.ensures.1)
 
 pub returns : goal.returns
 returns g c =

@@ -1,5 +1,4 @@
 use Rattle.std.proofs.Common.{refl}
-use Rattle.std.proofs.lemmas.Result.{err_from_is_err_and}
 use Rattle.shop.specs.Reached.{Undo}
 use Rattle.calls.specs.Handed.{with_work}
 use Rattle.calls.proofs.Called.{refused, refused_so, exit_is}
@@ -10,14 +9,14 @@ use Rattle.calls.proofs.undo.undo.Goals as goal
 pub returns-in_err-place-clause-leaves : goal.returns-in_err-place-clause-leaves
 returns-in_err-place-clause-leaves g c =
     (refused g.K.Kind.theory (with_work c.args.shop.now c.args.work.now) c.args.shop.now (Undo c.args.number c.args.name) _ _
-    (exit_is _ (err_from_is_err_and c.from_residual.result c.from_residual.ensures.1)) (refused_so _ (not_taken _ _ _ c.in_err-place.ensures))).leaves
+    (exit_is _ c.from_residual.ensures.1) (refused_so _ (not_taken _ _ _ c.in_err-place.ensures))).leaves
 
 pub returns-in_err-room_for : goal.returns-in_err-room_for
 returns-in_err-room_for g c =
     let a = no_room g.K.Kind.theory c.args.shop.now c.args.work.now c.take_out.new.work c.args.number c.args.name c.in_ok-place.place
     (in_row g.K.Kind.theory c.args.shop.now c.args.work.now c.take_out.new.work c.args.number c.args.name g.met.K.Kind.lawful c.in_ok-place.place c.in_ok-place.ensures)
     c.in_ok-fresh.fresh c.in_ok-fresh.ensures c.growth_of_inverse-growth.result (rw c.part.ensures at c.growth_of_inverse-growth.ensures)
-    c.from_residual-in_err-room_for.result _ (exit_is _ (err_from_is_err_and c.from_residual-in_err-room_for.result c.from_residual-in_err-room_for.ensures.1))
+    c.from_residual-in_err-room_for.result _ (exit_is _ c.from_residual-in_err-room_for.ensures.1)
     (rw c.row.ensures at c.in_err-room_for.ensures) in
     record { answer = a.answer; leaves = a.leaves }
 

@@ -1,6 +1,5 @@
 use Rattle.std.proofs.Common.{length, ap, ◌∙◌}
 use Rattle.forms.specs.Form.{grouped}
-use Rattle.std.proofs.lemmas.Result.{err_from_is_err_and}
 use Rattle.shop.specs.Reached.{Unrecord}
 use Rattle.calls.specs.Handed.{with_work}
 use Rattle.calls.proofs.Called.{refused, refused_so, exit_is}
@@ -11,7 +10,7 @@ use Rattle.calls.proofs.unrecord.unrecord.Goals as goal
 pub returns-in_err-place-clause-leaves : goal.returns-in_err-place-clause-leaves
 returns-in_err-place-clause-leaves g c =
     (refused g.K.Kind.theory (with_work c.args.shop.now c.args.work.now) c.args.shop.now (Unrecord c.args.number c.args.name) _ _
-    (exit_is _ (err_from_is_err_and c.from_residual.result c.from_residual.ensures.1)) (refused_so _ (not_taken _ _ _ c.in_err-place.ensures))).leaves
+    (exit_is _ c.from_residual.ensures.1) (refused_so _ (not_taken _ _ _ c.in_err-place.ensures))).leaves
 
 pub returns : goal.returns
 returns g c =

@@ -16,9 +16,12 @@ find_block-requires g t c κs within =
 
 pub returns-in_err-needs-clause-found : goal.returns-in_err-needs-clause-found
 returns-in_err-needs-clause-found g t c =
-    let p = err_from_is_err_and c.from_residual.result c.from_residual.ensures.1 in
-    rw (p.1, p.2) (stopped g.K.Kind.theory c.args.row.now c.args.work.now c.args.count c.saturating_sub-before.result c.saturating_sub-before.ensures c.if-before-eq0.false
-    c.leading-first.result c.index-row-0.result c.leading-first.ensures.counted c.find_block.new.row _ _ c.in_err-needs.ensures.found)
+    search (
+      rules,
+      err_from_is_err_and,
+      stopped g.K.Kind.theory c.args.row.now c.args.work.now c.args.count c.saturating_sub-before.result c.saturating_sub-before.ensures c.if-before-eq0.false
+          c.leading-first.result c.index-row-0.result c.leading-first.ensures.counted c.find_block.new.row c.find_block.new.row _ c.in_err-needs.ensures.found,
+    )
 
 pub returns-clause-found : goal.returns-clause-found
 returns-clause-found g t c =

@@ -9,12 +9,11 @@ use Rattle.needs.proofs.gather.gather.Goals.{then-holds_name+in_ok-carry_left, e
 
 pub returns-in_err-carry_left : goal.returns-in_err-carry_left
 returns-in_err-carry_left g c ws h s e =
-    let p = err_from_is_err_and c.from_residual.result c.from_residual.ensures.1 in
     let within : c.loop-i.i < length c.loop-i.row = search rules in
     let k = stopped (named g.K.Kind.theory) (λ c. c.name) c.args.needs.now c.args.row.now c.loop-i.row c.loop-i.needed c.loop-i.i c.loop-i.invariant within c.index-row-i.result
     c.if-holds_name.ensures c.carry_left.new.row c.carry_left.result c.carry_left.ensures c.in_err-carry_left.field-0.0
     (put_mid c.loop-i.needed (c.loop-i.i + 1 - c.loop-i.needed) c.loop-i.row c.carry_left.new.row) c.in_err-carry_left.was in
-    rw (p.1, p.2) (of_changes g.K.Kind.theory c.args.needs.now ws s [] h _ _ (rw e at k))
+    search (rules, err_from_is_err_and, of_changes g.K.Kind.theory c.args.needs.now ws s [] h _ _ (rw e at k))
 
 pub loop-i-preserved : goal.loop-i-preserved
 loop-i-preserved g c =

@@ -8,9 +8,12 @@ loop-i-init g c = at_first g.K.Kind.theory c.args.row.now
 
 pub returns-in_err-q : goal.returns-in_err-q
 returns-in_err-q g c =
-    let p = err_from_is_err_and c.from_residual.result c.from_residual.ensures.1 in
-    rw (p.1, p.2) (stopped g.K.Kind.theory c.args.row.now c.loop-i.row c.loop-i.i c.loop-i.invariant (search rules) c.index-row-i.result c.index-row-i-in-loop-i.result c.commute.result
-    c.index-row-i.is c.index-row-i-in-loop-i.is c.commute.ensures _ c.loop-i.row c.in_err-q.was)
+    search (
+      rules,
+      err_from_is_err_and,
+      stopped g.K.Kind.theory c.args.row.now c.loop-i.row c.loop-i.i c.loop-i.invariant (search rules) c.index-row-i.result c.index-row-i-in-loop-i.result c.commute.result
+          c.index-row-i.is c.index-row-i-in-loop-i.is c.commute.ensures _ c.loop-i.row c.in_err-q.was,
+    )
 
 pub loop-i-preserved : goal.loop-i-preserved
 loop-i-preserved g c =

@@ -10,13 +10,12 @@ loop-step-init g c = none_passed g.K.Kind.theory c.args.row.now c.args.count
 
 pub returns-in_err-map_err : goal.returns-in_err-map_err
 returns-in_err-map_err g c =
-    let p = err_from_is_err_and c.from_residual.result c.from_residual.ensures.1 in
     let long : length c.loop-step.row ≡ length c.args.row.now = search rules in
     let within : c.loop-step.step-counter + c.args.count < length c.loop-step.row = search rules in
     let k : part (λ (u : Unit {0}). u) (found_at c.loop-step.step-counter) c.carry_left.result ≡ c.map_err.result = search rules in
     let h = stopped g.K.Kind.theory c.args.row.now c.args.count c.loop-step.row c.loop-step.step-counter c.loop-step.invariant long within
-    c.carry_left.result c.carry_left.new.row c.carry_left.ensures _ _ (k ∙ c.in_err-map_err.was) in
-    rw (p.1, p.2) (record { passed = h; whole = whole g.K.Kind.theory c.args.row.now c.args.count _ _ h; within = search rules })
+    c.carry_left.result c.carry_left.new.row c.carry_left.ensures _ c.carry_left.new.row (k ∙ c.in_err-map_err.was) in
+    search (rules, err_from_is_err_and, h, whole g.K.Kind.theory c.args.row.now c.args.count _ _ h)
 
 pub loop-step-preserved : goal.loop-step-preserved
 loop-step-preserved g c =
