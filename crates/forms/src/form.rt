@@ -47,7 +47,7 @@ fn patches_sound<K: Kind>(row: &[Named<K::Patch>], counter: u8) -> bool
     (1..=counter).contains(&name)
         && make_patch::<Labelled<K>>(patch)
         && !holds::<K>(later, name)
-        // The recursion stays: a chain over the parts does not give what stands behind each.
+        // A recursion, since a chain over the parts does not give what stands behind each.
         && patches_sound::<K>(later, counter)
 }
 

@@ -11,7 +11,7 @@ const SHEETS: usize = 4;
 
 const COLUMNS: usize = 8;
 
-// The text of a note, without the zero bytes behind it.
+// The text of a note, without the zero bytes behind it. It is only printed.
 #[derive(Clone, Copy)]
 struct Text(Note);
 

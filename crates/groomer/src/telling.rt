@@ -8,12 +8,13 @@ use product::telling::{Numbers, tell};
 use std::fmt;
 use texts::reading::Unreadable;
 
+// Prints the error, and answers what that means for all options.
 pub fn tell_unreadable(rt: &HostRuntime, unreadable: Unreadable) -> anyhow::Result<()> {
     println!(rt; "{unreadable}")?;
     bail!("the options were not read, and none was put on")
 }
 
-// The name of an option, each byte as the character of its number, or ? where there is no option.
+// The name of an option, each byte as the character of its number, or ? where there is no option. It is only printed.
 #[derive(Clone, Copy)]
 struct Name<'a>(Option<&'a Part>);
 

@@ -1,10 +1,10 @@
 // Needed patches, brought to the front of a history.
-ghost use Rattle.std.specs.Prelude.{◌≡◌, ℕ, List, [], ◌++◌, length};
+ghost use Rattle.std.specs.Prelude.{◌≡◌, ℕ, List, []};
 ghost use Rattle.histories.specs.declared.named.Named.{Named as Under};
 ghost use Rattle.histories.specs.Named.{named, patches};
 ghost use Rattle.histories.specs.History.{holds, gathered};
 ghost use Rattle.histories.specs.Flat.{flat};
-ghost use Rattle.needs.specs.Gather.{ComeFirst, Gathers};
+ghost use Rattle.needs.specs.Gather.{Gathers};
 
 use histories::named::{Labelled, Named};
 use kinds::answers::Clash;

@@ -1,4 +1,4 @@
-// Some neighbours in a row.
+// Where some neighbours stand in a row. It holds none of them.
 
 // The place of the first, and how many they are.
 #[derive(Clone, Copy, Debug, PartialEq, Eq)]

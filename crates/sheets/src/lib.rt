@@ -1,7 +1,7 @@
 // Sheets: for each of four sheets a document has a document of the kind below or none. A change makes, removes or moves a sheet, or changes it inside.
 #![tactic(auto)]
 
-ghost use Rattle.std.specs.Prelude.{◌≡◌, ◌+◌, ◌*◌, ◌<◌, ◌≤◌, ◌⊎◌, not, length, if◌then◌else◌, Some, None, IfOk, IfSome, ◌==◌, nat_lt, slice_index};
+ghost use Rattle.std.specs.Prelude.{◌≡◌, ◌+◌, ◌*◌, ◌<◌, ◌≤◌, ◌⊎◌, ◌^◌, length, if◌then◌else◌, Some, None, IfOk, IfSome, ◌==◌, nat_lt};
 ghost use Rattle.kinds.specs.Bounded.{Applied, saturated};
 ghost use Rattle.std.specs.List.{list_all};
 ghost use Rattle.sheets.specs.declared.SheetChange.TheVariants.{Create as creating, Remove as removing, Move as moving, Inside as changing};
@@ -70,13 +70,15 @@ fn share<P: Copy>(c: SheetChange<P>, d: SheetChange<P>) -> bool
 }
 
 // Where the words of the sheet a begin, of four sheets of `width` words each.
-fn find(run: &[u32], width: usize, a: Sheet) -> Option<usize>
-    requires { FourRuns width run.now }
+fn find(width: usize, a: Sheet) -> Option<usize>
+    requires { 4 * width < 2 ^ 64 }
     ensures found { result ≡ (if nat_lt a.0 4 then Some (a.0 * width) else None) }
-    ensures within { IfSome result (λ at. at + width ≤ length run.now) }
+    ensures within { IfSome result (λ at. at + width ≤ 4 * width) }
 {
     (a.0 < COUNT).then(|| usize::from(a.0) * width)
 }
+
+// Run and width are two parameters, here and below: of a struct that holds a lent run contracts would say what comes back.
 
 // Where the words of the sheet a begin, if it is there.
 fn find_there<F>(run: &[u32], width: usize, a: Sheet) -> Result<usize, Failure<SheetFault<F>>>
@@ -84,7 +86,7 @@ fn find_there<F>(run: &[u32], width: usize, a: Sheet) -> Result<usize, Failure<S
     ensures found { result ≡ there_at width a run.now }
     ensures within { IfOk result (λ at. at + width ≤ length run.now) }
 {
-    match find(run, width, a) {
+    match find(width, a) {
         Some(at) if run[at] != 0 => Ok(at),
         _ => Err(Failure::Fault(SheetFault::Absent(a))),
     }
@@ -96,7 +98,7 @@ fn find_absent<F>(run: &[u32], width: usize, a: Sheet) -> Result<usize, Failure<
     ensures found { result ≡ absent_at width a run.now }
     ensures within { IfOk result (λ at. at + width ≤ length run.now) }
 {
-    match find(run, width, a) {
+    match find(width, a) {
         Some(at) if run[at] == 0 => Ok(at),
         Some(_) => Err(Failure::Fault(SheetFault::There(a))),
         None => Err(Failure::Fault(SheetFault::Absent(a))),
@@ -121,7 +123,6 @@ fn move_words(run: &mut [u32], from: usize, to: usize, count: usize)
 
 // The four changes of a run that holds four sheets of `width` words each. An absent sheet's words are all zero,
 // and so are those of a fresh document, so that creating and removing write the first word only.
-// Run and width are two parameters: of a struct that holds a lent run each contract would say what comes back.
 fn create<K: Kind>(
     a: Sheet,
     run: &mut [u32],

@@ -27,7 +27,7 @@ pub struct Sides<L, R> {
 }
 
 // A failure of the left side, with its place added.
-// A match and no `map`: the prover covers no closure or constructor whose result has a type, as G, of no argument.
+// A match and no `Failure::map`, which the prover does not cover where a type, as G here, is in the result alone.
 fn at_left<F, G>(r: Result<(), Failure<F>>) -> Result<(), Failure<Side<F, G>>>
     ensures { result ≡ failing to_left r }
 {
