@@ -164,3 +164,8 @@ module _ {P F : Type 0} (T : Theory P F) where
           on (Ok s) (Err x) e c = absurd (let z : ◌≡◌ {A = ℕ} 0 1 = cc in omega arith)
           on (Err x) (Ok t) e c = absurd (let z : ◌≡◌ {A = ℕ} 0 1 = cc in omega arith)
           on (Err x) (Err y) e c = (x, c)
+
+    -- ... in any row, for the patches of any history that it holds
+    pub of_row : (was : List (Named P)) (r : Result ℕ Clash) (left : List (Named P)) → ComeFirst (brought [] was) r left
+        → (ws h : List (Named (List P))) → ((n : ℕ) → holds by_name ws n ≡ holds by_name ns n) → was ≡ flat h → Gathers (gathered (patches T) by_name ws [] h) r left
+    of_row was r left k ws h same e = of_changes ws same [] h r left (rw e at k)

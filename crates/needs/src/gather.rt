@@ -4,7 +4,7 @@ ghost use Rattle.histories.specs.declared.named.Named.{Named as Under};
 ghost use Rattle.histories.specs.Named.{named, patches};
 ghost use Rattle.histories.specs.History.{holds, gathered};
 ghost use Rattle.histories.specs.Flat.{flat};
-ghost use Rattle.needs.specs.Gather.{Gathers};
+ghost use Rattle.needs.specs.Gather.{ComeFirst, Gathers};
 
 use histories::named::{Labelled, Named};
 use kinds::answers::Clash;
@@ -26,14 +26,16 @@ pub fn gather<K: Kind>(
     needs: &[Named<K::Patch>],
     row: &mut [Named<K::Patch>],
 ) -> Result<usize, Clash>
-    ensures { (ws h : List (Under (List K.Patch))) → ((n : ℕ) → holds (λ w. w.name) ws n ≡ holds (λ c. c.name) needs.now n) → row.old ≡ flat h
+    ensures changes { ComeFirst (gathered (named K.Kind.theory) (λ c. c.name) needs.now [] row.old) result row.new }
+    ensures patches { (ws h : List (Under (List K.Patch))) → ((n : ℕ) → holds (λ w. w.name) ws n ≡ holds (λ c. c.name) needs.now n) → row.old ≡ flat h
         → Gathers (gathered (patches K.Kind.theory) (λ w. w.name) ws [] h) result row.new }
 {
     let mut needed = 0;
     // By places, since each turn lends a part of the row, which no iterator over it allows.
     for i in 0..row.len() {
         if holds_name::<K>(needs, row[i].name) {
-            carry_left::<Labelled<K>>(&mut row[needed..=i])?;
+            let carried = carry_left::<Labelled<K>>(&mut row[needed..=i]);
+            carried?;
             needed += 1;
         }
     }
