@@ -53,6 +53,11 @@ module _ {P : Type 0} where
       let (a, b) = and_parts (not (holds (λ (w : Named (List P)). w.name) h p.name)) (apart (λ (w : Named (List P)). w.name) h) e in
       (s.0, other_name p.name h (not-true (holds (λ (w : Named (List P)). w.name) h p.name) a), apart_told h b s.1)
 
+  -- Told apart, they have changes. Nothing cites it yet.
+  pub told_some : (h : List (Named (List P))) → ToldApart h → AllSome h
+  told_some [] t = tt
+  told_some (p ∷ h) t = (t.0, told_some h t.2)
+
 module _ {P F : Type 0} (T : Theory P F) where
   -- patches that can be written have changes
   pub written_some : (h : List (Named (List P))) → all_written (patches T) h ≡ true → AllSome h

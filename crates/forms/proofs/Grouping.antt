@@ -1,5 +1,5 @@
 -- The history in a flat row: it is the one whose flat row this is, and whose patches are told apart.
-use Rattle.std.proofs.Common.{◌≡◌, ℕ, ◌+◌, ◌<◌, false, eqb, List, [], ◌∷◌, ◌++◌, map, length, sym, refl, ap, ◌∙◌, arith, length-append}
+use Rattle.std.proofs.Common.{◌≡◌, ℕ, ◌+◌, ◌<◌, ◌≤◌, false, eqb, List, [], ◌∷◌, ◌++◌, map, length, sym, refl, ap, ◌∙◌, subst, arith, length-append}
 use Rattle.std.proofs.lemmas.List.{append-nil, length-map}
 use Rattle.std.proofs.lemmas.Bool.{eqb-true, eqb-false, eq-eqb, ne_eqb, cond-true, cond-false, cond_both, or_parts}
 use Rattle.histories.specs.declared.named.Named.{Named}
@@ -98,3 +98,15 @@ module _ {P : Type 0} where
   grouped_more row p some e =
       ap grouped (ap (λ z. z ++ flat_of p) (sym (flat_grouped row)) ∙ ap (λ z. flat (grouped row) ++ z) (sym (append-nil (flat_of p))) ∙ sym (flat_append (grouped row) (p ∷ [])))
       ∙ grouped_flat (grouped row ++ p ∷ []) (told_more (grouped row) p (told_grouped row) some e)
+
+  -- Two parts of a row whose patches are told apart. Nothing cites it yet.
+  pub grouped_append : (g h : History P) → ToldApart (g ++ h) → grouped (flat g ++ flat h) ≡ g ++ h
+  grouped_append g h t = ap grouped (sym (flat_append g h)) ∙ grouped_flat (g ++ h) t
+
+  -- Each patch has a change at least. Nothing cites it yet.
+  pub grouped_length : (row : List (Named P)) → length (grouped row) ≤ length row
+  grouped_length row = subst (λ (z : List (Named P)). length (grouped row) ≤ length z) (flat_grouped row) (on (grouped row) (told_grouped row))
+    where
+      on : (h : History P) → ToldApart h → length h ≤ length (flat h)
+      on [] t = omega arith
+      on (p ∷ h) t = let i = on h t.2 in let l = flat_length p h in let some = t.0 in omega arith

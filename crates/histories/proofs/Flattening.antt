@@ -222,6 +222,12 @@ module _ {P F : Type 0} (T : Theory P F) where
       on below (Err c) = refl
       on below (Ok s) = ap (ahead s.0) (below s.1) ∙ inner s.0 (passing N s.1 qs)
 
+  -- A patch passed over a history: done exactly together, stopped by the patch whose change is at the told place, and too far together.
+  -- Nothing cites it yet.
+  pub passing_history : (p : Named (List P)) (h : List (Named (List P)))
+      → part (λ s. s) (stops_at (flat h)) (passing N (flat_of p) (flat h)) ≡ flat_both (passed (patches T) (λ w. w.name) p h)
+  passing_history p h = sym (passing_places (flat_of p) (flat h)) ∙ passing_flat p h
+
   -- none is lost on the way
   pub passing_lengths : (ps qs : List (Named P)) (s : Rows) → passing_by T ps qs ≡ Ok s → (length s.0 ≡ length qs) × (length s.1 ≡ length ps)
   passing_lengths ps qs s e = lengths N ps qs s (on (passing N ps qs) (sym (passing_places ps qs) ∙ e))

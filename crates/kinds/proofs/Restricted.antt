@@ -1,8 +1,13 @@
 -- A kind whose patches are some of the patches of a kind that keeps the laws keeps the laws.
-use Rattle.std.proofs.Common.{◌≡◌, Bool, true, Some, Option, sym, ap, ◌∙◌}
+use Rattle.std.proofs.Common.{◌≡◌, Bool, true, false, cond, Some, None, Ok, Err, Option, Result, sym, ap, ◌∙◌}
 use Rattle.std.proofs.lemmas.Bool.{and_parts, and_from}
+use Rattle.kinds.specs.declared.answers.Clash.{Clash}
+use Rattle.kinds.specs.declared.answers.Clash.TheVariants.{TooFar}
 use Rattle.kinds.specs.Theory.{Theory}
+use Rattle.kinds.specs.Bounded.{done_or_refused, answer}
 use Rattle.kinds.specs.Laws.{Commutes, Undo, SwapBack, Turning, FrontFirst, BackFirst, Lawful}
+use Rattle.kinds.specs.Parts.{part}
+use Rattle.kinds.specs.Sequences.{◌>>=◌}
 use Rattle.kinds.specs.Restricted.{both_read, restricted}
 use Rattle.kinds.proofs.Halves.{three_from_front}
 use Rattle.kinds.proofs.Parts.{pair_of}
@@ -42,6 +47,19 @@ module _ {X Y F : Type 0} (T : Theory Y F) (shown : X → Y) (read : Y → Optio
         let (_, _, k, l, i) = in_part p q r.0 r.1 c in
         let (x, y) = pair_of (sym i ∙ h) in
         c ∙ λ i. Some ((sym k ∙ ap shown x) i, (sym l ∙ ap shown y) i)
+
+    -- The code's answer, from its answer in Y: for a kind that is made by reading another one's patches. Nothing cites it yet.
+    pub restricted_answer : (p q : X) (r : Result (X × X) Clash) → part (λ (b, a). (shown b, shown a)) (λ c. c) r ≡ answer T (shown p) (shown q) → r ≡ answer R p q
+    restricted_answer p q r = by_cases (T.far (shown p) (shown q)) (T.commute (shown p) (shown q)) r
+      where
+        by_cases : (b : Bool) (o : Option (Y × Y)) (r : Result (X × X) Clash) → part (λ (b, a). (shown b, shown a)) (λ c. c) r ≡ cond b (Err TooFar) (done_or_refused o)
+            → r ≡ cond b (Err TooFar) (done_or_refused (o >>= both_read read))
+        by_cases true o (Ok z) e = cc
+        by_cases true o (Err c) e = cc
+        by_cases false None (Ok z) e = cc
+        by_cases false None (Err c) e = cc
+        by_cases false (Some y) (Ok z) e = let k : ◌≡◌ {A = Y × Y} (shown z.0, shown z.1) y = cc in rw (← k, of_both z.0 z.1)
+        by_cases false (Some y) (Err c) e = cc
 
     module _ (L : Lawful T) where
       undo : Undo R

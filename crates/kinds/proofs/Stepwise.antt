@@ -82,6 +82,14 @@ module _ {P F : Type 0} (T : Theory P F) where
       outcome_first n p (ps ++ qs) d ∙ then_then _ _ (outcome_from (n + 1) ps) (outcome_from (n + suc (length ps)) qs) (λ e. rw (← k) (outcome_append (n + 1) ps qs e))
       ∙ ap (λ z. and_then z (outcome_from (n + suc (length ps)) qs)) (sym (outcome_first n p ps d))
 
+  -- A run after one step, whatever it held. Nothing cites it yet.
+  pub applied_one : (p : P) (was : List ℕ) (r : Result (Unit {0}) (Failure F)) (left : List ℕ)
+      → Applied T p was r left → Applied (sequences T) (p ∷ []) was (failing (found_at 0) r) left
+  applied_one p was r left a = record {
+    refused = λ h. let (x, y) = a.refused h in (ap (failing (found_at 0)) x, y);
+    done = λ d f w h. let (e, g, l, o) = a.done d f w h in (e, g, l, outcome_one 0 p d ∙ ap (failing (found_at 0)) o ∙ holding_failing (found_at 0) r e);
+  }
+
   -- a run after steps that were stopped, whatever should have followed ...
   pub applied_stopped : (ps qs : List P) (was : List ℕ) (x : Failure (AtStep F)) (left : List ℕ)
       → Applied (sequences T) ps was (Err x) left → Applied (sequences T) (ps ++ qs) was (Err x) left
