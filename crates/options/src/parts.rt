@@ -71,15 +71,14 @@ pub fn changes_before(parts: &[Part], count: usize) -> usize
 }
 
 impl Options {
-    // The place of the option of a name, the first if there are several. Not inlined: a text of many options is read in a
-    // fifth less time so, since the search takes nearly all of it.
-    #[inline(never)]
+    // The place of the option of a name, the first if there are several. The closure has the name itself: with a reference to
+    // it the search took a quarter more time, and it is nearly all that reading a text of many options takes.
     pub fn find(&self, name: &[u8]) -> Option<usize>
         ensures { FirstNamed self.now.parts.items name.now result }
     {
         self.parts
             .iter()
-            .position(|part| part.name.as_slice() == name)
+            .position(move |part| part.name.as_slice() == name)
     }
 
     // Puts all options onto a fresh controller, in order. A fault tells the place in the row of the change that found it.
